@@ -1,5 +1,5 @@
 -- The whole number that a field of text writes: this project's own rule.
-use Rattle.std.specs.Prelude.{ℕ, ℤ, pos, negsuc, neg_ℤ, Bool, List, [], ◌∷◌, drop, Option, Some, None, option_map, if◌then◌else◌, nat_lt, ◌^◌}
+use Rattle.std.specs.Prelude.{ℕ, ℤ, pos, negsuc, neg_ℤ, List, [], ◌∷◌, drop, Option, Some, None, option_map, if◌then◌else◌, nat_lt, ◌^◌}
 use Rattle.std.specs.Option.{option_and_then}
 use Rattle.std.specs.Str.{all_ascii_digits}
 use Rattle.std.specs.Str.Parse.{digits_value, starts_with_minus}
@@ -21,7 +21,7 @@ fitting_i64 (pos n) = if nat_lt n (2 ^ 63) then Some (pos n) else None
 fitting_i64 (negsuc n) = if nat_lt n (2 ^ 63) then Some (negsuc n) else None
 
 -- the whole number that a text writes, where it is one of an i64
-abbrev pub int_of_text : List ℕ → Option ℤ
+unfoldable pub int_of_text : List ℕ → Option ℤ
 int_of_text text = option_and_then fitting_i64 (whole_number_of_text text)
 
 -- a number, where it is one of a u64

@@ -3,12 +3,14 @@
 
 mod cell;
 mod memory;
+mod number;
 mod schema;
 mod table;
 mod text;
 
 pub use cell::{Cell, CellRef, Kind};
 pub use memory::{Mem, Memory};
+pub use number::int_of;
 pub use schema::{MAX_COLUMNS, MAX_NAME_BYTES, Schema, SchemaErr};
 pub use table::{MAX_ROWS, Table};
 pub use text::Text;

@@ -1,0 +1,4 @@
+pub mod Inline
+pub mod Messages
+pub mod Talk
+pub mod Texts
