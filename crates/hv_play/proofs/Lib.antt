@@ -1,0 +1,7 @@
+pub mod AskedLemmas
+pub mod LineLemmas
+pub mod RunLemmas
+pub mod StepLemmas
+pub mod TalkLemmas
+pub mod TextLemmas
+pub mod ValueLemmas

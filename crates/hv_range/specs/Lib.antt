@@ -1,1 +1,4 @@
 pub mod Range
+pub mod RangeSums
+pub mod RangeLaws
+pub mod IsRange

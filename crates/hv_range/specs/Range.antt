@@ -1,5 +1,5 @@
 -- The range of a column over a list of rows: plain folds over its cells. This project's own rule.
-use Rattle.std.specs.Prelude.{ℕ, ◌+◌, ℤ, pos, ◌+ℤ◌, List, [], ◌∷◌, length, Option, Some, None, is_none, fold, count_by}
+use Rattle.std.specs.Prelude.{ℕ, ℤ, pos, ◌+ℤ◌, List, [], ◌∷◌, length, Bool, true, false, Option, Some, None, fold, count_by}
 use Rattle.std.specs.List.{filter_map}
 use Rattle.std.specs.Int.{int_min, int_max}
 use Rattle.hv_value.specs.declared.cell.Cell.{Cell}
@@ -21,9 +21,14 @@ number_in col row = number_of (cell_at row.cells col)
 abbrev pub numbers : ℕ → List Row → List ℤ
 numbers col rows = filter_map (number_in col) rows
 
--- how many rows have no number in the column
+-- whether a cell is missing
+abbrev pub is_missing : Cell → Bool
+is_missing cell.Missing = true
+is_missing (cell.Int n) = false
+
+-- how many rows have a missing cell in the column
 abbrev pub missing_count : ℕ → List Row → ℕ
-missing_count col rows = count_by (λ row. is_none (number_in col row)) rows
+missing_count col rows = count_by (λ row. is_missing (cell_at row.cells col)) rows
 
 -- the numbers joined from the first on by an operation, none where there are no numbers
 abbrev pub joined : (ℤ → ℤ → ℤ) → List ℤ → Option ℤ

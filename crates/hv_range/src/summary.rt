@@ -1,4 +1,13 @@
-//! The range of a column as a value, and how the ranges of two lists of rows are joined (specs/Range.antt).
+//! The range of a column as a value: that of no rows, of one cell, and of the rows of two ranges
+//! (specs/Range.antt, specs/RangeSums.antt).
+
+ghost use Rattle.std.specs.Prelude.{◌≡◌, ℕ, []};
+ghost use Rattle.std.specs.Int.{int_min, int_max};
+ghost use Rattle.hv_value.specs.Cells.{cell_lent};
+ghost use Rattle.hv_range.specs.Range.{range_of};
+ghost use Rattle.hv_range.specs.RangeSums.{CanAdd, IsSmall, cell_range, join, range_sum};
+
+use hv_value::CellRef;
 
 /// The range of a column over some rows.
 #[derive(Clone, Copy, Debug, PartialEq, Eq)]
@@ -13,4 +22,72 @@ pub struct RangeSummary {
     pub greatest: Option<i64>,
     /// The exact sum of the numbers.
     pub sum: i128,
+}
+
+/// The range of no rows.
+pub(crate) fn empty() -> RangeSummary
+    ensures { (col : ℕ) → result ≡ range_of col [] }
+{
+    RangeSummary {
+        count: 0,
+        missing: 0,
+        least: None,
+        greatest: None,
+        sum: 0,
+    }
+}
+
+/// The range of one cell.
+pub(crate) fn of_cell(cell: CellRef) -> RangeSummary
+    ensures value { result ≡ cell_range (cell_lent cell) }
+    ensures small { IsSmall (cell_lent cell) }
+{
+    match cell {
+        CellRef::Missing => RangeSummary {
+            count: 0,
+            missing: 1,
+            least: None,
+            greatest: None,
+            sum: 0,
+        },
+        CellRef::Int(n) => RangeSummary {
+            count: 1,
+            missing: 0,
+            least: Some(n),
+            greatest: Some(n),
+            sum: n as i128,
+        },
+    }
+}
+
+fn lesser(a: Option<i64>, b: Option<i64>) -> Option<i64>
+    ensures { result ≡ join int_min a b }
+{
+    match (a, b) {
+        (Some(m), Some(n)) => Some(m.min(n)),
+        (None, other) | (other, None) => other,
+    }
+}
+
+fn greater(a: Option<i64>, b: Option<i64>) -> Option<i64>
+    ensures { result ≡ join int_max a b }
+{
+    match (a, b) {
+        (Some(m), Some(n)) => Some(m.max(n)),
+        (None, other) | (other, None) => other,
+    }
+}
+
+/// The range of the rows of both.
+pub(crate) fn sum(a: &RangeSummary, b: &RangeSummary) -> RangeSummary
+    requires { CanAdd a.now b.now }
+    ensures { result ≡ range_sum a.now b.now }
+{
+    RangeSummary {
+        count: a.count + b.count,
+        missing: a.missing + b.missing,
+        least: lesser(a.least, b.least),
+        greatest: greater(a.greatest, b.greatest),
+        sum: a.sum + b.sum,
+    }
 }

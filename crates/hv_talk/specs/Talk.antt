@@ -1,5 +1,5 @@
 -- Which talk of one session is right: what each text that it hears makes due, and what may be said.
-use Rattle.std.specs.Prelude.{◌≡◌, ◌⊎◌, ℕ, List, [], ◌∷◌, ◌++◌, length, get_or, drop, Option, Some, None}
+use Rattle.std.specs.Prelude.{◌≡◌, ◌⊎◌, ℕ, ◌==◌, if◌then◌else◌, List, [], ◌∷◌, ◌++◌, length, get_or, drop, Option, Some, None}
 use Rattle.hv_range.specs.Range.{range_of}
 use Rattle.hv_talk.specs.declared.message.Message.{Message}
 use Rattle.hv_talk.specs.declared.message.Message.TheVariants.{Load, View}
@@ -70,14 +70,30 @@ abbrev pub after_due : Talk → Due → Talk
 after_due talk due = record talk { objects = with_made talk.objects due; due = drop 1 talk.due }
 
 -- the object with a number
-abbrev pub object_at : Talk → ℕ → Inline
-object_at talk of = get_or talk.objects of no_table
+abbrev pub object_at : List Inline → ℕ → Inline
+object_at objects of = get_or objects of no_table
 
 -- a request's last word: the range of its column over the whole table of its object
-abbrev pub final_reply : Talk → OpenRequest → Reply
-final_reply talk request =
-    let table = object_at talk request.of in Final request.id (length table.parts) (range_of request.col (whole_rows table))
+abbrev pub final_reply : List Inline → OpenRequest → Reply
+final_reply objects request =
+    let table = object_at objects request.of in Final request.id (length table.parts) (range_of request.col (whole_rows table))
 
 -- a request is answered: by its last word, or since memory was refused
-abbrev pub Answers : Talk → OpenRequest → Reply → Type 0
-Answers talk request reply = (reply ≡ final_reply talk request) ⊎ (reply ≡ NoMem (Some request.id))
+abbrev pub Answers : List Inline → OpenRequest → Reply → Type 0
+Answers objects request reply = (reply ≡ final_reply objects request) ⊎ (reply ≡ NoMem (Some request.id))
+
+-- what is owed is said in order until nothing is
+abbrev pub Pays : Talk → List Reply → Talk → Type 0
+Pays talk [] next = (talk.due ≡ []) × (next ≡ talk)
+Pays talk (reply ∷ replies) next = (due : Due) × (later : List Due) × (talk.due ≡ due ∷ later) × (reply ≡ due_reply talk due) × Pays (after_due talk due) replies next
+
+-- a session hears a text and says what that makes due
+pub record Replies (talk : Talk) (text : List ℕ) (replies : List Reply) (next : Talk) : Type 0 where
+  pub owing : Talk
+  pub hears : Hears talk text owing
+  pub pays : Pays owing replies next
+
+-- the requests without the first one with an id
+abbrev pub closed : ℕ → List OpenRequest → List OpenRequest
+closed id [] = []
+closed id (request ∷ requests) = if request.id == id then requests else request ∷ closed id requests

@@ -1,1 +1,3 @@
 pub mod RecordsOfBytes
+pub mod RowsOfBytes
+pub mod TableFacts

@@ -1,0 +1,2 @@
+mod OptionLists
+pub mod RowsAcross

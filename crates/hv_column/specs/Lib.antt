@@ -1,0 +1,4 @@
+pub mod Column
+pub mod Nullable
+pub mod Rows
+pub mod Store

@@ -1,0 +1,7 @@
+//! Columns: the cells of one column of a partition, kept by kind.
+#![tactic(auto)]
+
+mod column;
+mod nullable;
+
+pub use column::Column;

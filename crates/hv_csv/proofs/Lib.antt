@@ -1,0 +1,4 @@
+mod BaseRows
+mod Filling
+mod HeaderPlaces
+mod RecordsLeft

@@ -1,0 +1,4 @@
+pub mod CauseLemmas
+pub mod FrontLemmas
+mod SourceLemmas
+pub mod TurnLemmas

@@ -1,0 +1,11 @@
+use Rattle.std.proofs.Common.{◌≡◌, ◌++◌, length, option_map}
+use Rattle.serde_json.specs.View.{items_view}
+use Rattle.hv_talk.specs.Messages.{texts_of}
+use Rattle.hv_play.proofs.messages.texts_of.Given as goal
+
+-- all texts are those found and then those of the rest
+abbrev pub invariant-loop-rest : goal.invariant-loop-rest
+invariant-loop-rest l = texts_of (items_view l.items) ≡ option_map (λ more. l.found.items ++ more) (texts_of (items_view l.rest))
+
+abbrev pub decreases-loop-rest : goal.decreases-loop-rest
+decreases-loop-rest l = length l.rest

@@ -1,0 +1,5 @@
+pub mod AnyOrder
+pub mod Apart
+pub mod GatherFacts
+pub mod PartsFacts
+pub mod Swaps

@@ -1,0 +1,88 @@
+//! A second view beside the range, the count of rows, and columns as views ask for them.
+
+use crate::{Gather, Vizketch, gather_rows, is_column_of, order_is_free};
+use hv_value::{Kind, Mem, Schema, Table, Text};
+use std::alloc::Global;
+use std::test::Fail;
+
+/// The number of rows.
+#[derive(Drop)]
+struct RowCount;
+
+impl Gather for RowCount {
+    ghost use Rattle.std.specs.Prelude.{◌≡◌, length, ⊤};
+
+    type Gathered = u64;
+
+    ghost gathers = { λ view rows count. count ≡ length rows };
+
+    ghost takes = { λ view columns. ⊤ };
+
+    fn start(&self, _alloc: Global) -> Mem<u64> {
+        Ok(0)
+    }
+
+    fn add_row<T: Table>(&self, _alloc: Global, kept: &mut u64, _table: &T, _row: u32) -> Mem<()> {
+        *kept += 1;
+        Ok(())
+    }
+}
+
+impl Vizketch for RowCount {
+    ghost use Rattle.std.specs.Prelude.{◌≡◌, length, ⊤};
+    ghost use Rattle.std.proofs.Common.{arith, length-append};
+
+    type Summary = u64;
+
+    ghost stands = { λ view rows count. count ≡ length rows };
+
+    ghost fits_columns = { λ view columns. ⊤ };
+
+    ghost merges_always = { λ view. ⊤ };
+
+    fn fits(&self, _schema: &Schema) -> bool {
+        true
+    }
+
+    fn zero(&self, _alloc: Global) -> Mem<u64> {
+        Ok(0)
+    }
+
+    fn summarize<T: Table>(&self, alloc: Global, table: &T) -> Mem<u64> {
+        gather_rows(alloc, self, table)
+    }
+
+    fn merge_into(&self, _alloc: Global, acc: &mut u64, d: &u64) -> Mem<()> {
+        *acc += *d;
+        Ok(())
+    }
+
+    fn copy(&self, _alloc: Global, s: &u64) -> Mem<u64> {
+        Ok(*s)
+    }
+
+    ghost any_order = { λ view a b c count h. Prim.grind (arith, length-append) };
+}
+
+#[test]
+fn an_empty_summary_stays_empty(rt: HostRuntime) -> Result<(), Fail> {
+    let view = RowCount;
+    let mut acc = view.zero(rt.alloc())?;
+    let other = view.zero(rt.alloc())?;
+    view.merge_into(rt.alloc(), &mut acc, &other)?;
+    order_is_free(&view, &acc);
+    assert_eq!(rt; view.copy(rt.alloc(), &acc)?, 0);
+    Ok(())
+}
+
+#[test]
+fn a_column_is_there_and_of_the_kind(rt: HostRuntime) -> Result<(), Fail> {
+    let name = Text::of(rt.alloc(), "x")?;
+    let columns = vec![in rt.alloc(); (name, Kind::Int)]?;
+    let schema = Schema::new(columns).ok().ok_or("a schema")?;
+    for (col, want) in [(0, true), (1, false), (u32::MAX, false)] {
+        assert_eq!(rt; is_column_of(&schema, col, Kind::Int), want, "at {col}");
+    }
+    assert!(rt; RowCount.fits(&schema));
+    Ok(())
+}
