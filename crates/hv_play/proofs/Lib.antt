@@ -1,5 +1,6 @@
 pub mod AskedLemmas
 pub mod LineLemmas
+pub mod PartLemmas
 pub mod RunLemmas
 pub mod StepLemmas
 pub mod TalkLemmas

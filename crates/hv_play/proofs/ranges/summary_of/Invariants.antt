@@ -7,6 +7,6 @@ use Rattle.hv_play.proofs.ranges.summary_of.Given as goal
 abbrev pub invariant-loop-part : goal.invariant-loop-part
 invariant-loop-part g l =
     record {
-      stands : g.V.Vizketch.stands l.fn.view.now (flat_rows l.fn.table.now (below l.part)) l.summary;
-      before : AreBefore l.part (flat_rows l.fn.table.now (below l.part));
+      stands : g.V.Vizketch.stands l.fn.view (flat_rows l.fn.table (below l.part)) l.summary;
+      before : AreBefore l.part (flat_rows l.fn.table (below l.part));
     }
