@@ -1,13 +1,13 @@
 -- Columns that stand side by side: the rows that they hold, and the rows of the records that they were read from.
-use Rattle.std.proofs.Common.{◌≡◌, ◌≤◌, ◌<◌, ◌+◌, ◌∷◌, ◌++◌, [], ◌∙◌, ℕ, zero, suc, List, Bool, Option, Some, None, true, false, refl, sym, ap, subst, length, map, get_or, arith, append_assoc, length-append}
-use Rattle.std.specs.Prelude.{nat_le, if◌then◌else◌, position, option_and_then, bytes_eq}
+use Rattle.std.proofs.Common.{◌≡◌, ◌≤◌, ◌<◌, ◌+◌, ◌∷◌, ◌++◌, [], ◌∙◌, ℕ, zero, suc, List, Bool, Some, None, true, false, refl, sym, ap, length, map, get_or, arith, append_assoc, length-append}
+use Rattle.std.specs.Prelude.{nat_le, if◌then◌else◌}
 use Rattle.std.proofs.lemmas.Bool.{leb-false, leb-true, lt-leb}
 use Rattle.std.proofs.lemmas.List.{map-append, length-map}
 use Rattle.std.proofs.Math.Seq.{get_or-append_seam}
 use Rattle.hv_value.specs.declared.cell.Cell.{Cell}
 use Rattle.hv_value.specs.declared.cell.Cell.TheVariants as cell
 use Rattle.hv_value.specs.declared.cell.Kind.{Kind}
-use Rattle.hv_value.specs.Rows.{Row, cell_in, rows_from, rows_of_records}
+use Rattle.hv_value.specs.Rows.{cell_in, rows_from, rows_of_records}
 use Rattle.hv_value.specs.Schema.{Columns}
 use Rattle.hv_value.specs.Table.{onward, first_row, row_from}
 use Rattle.hv_column.specs.Column.{ColumnCells}

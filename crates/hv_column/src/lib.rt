@@ -5,3 +5,6 @@ mod column;
 mod nullable;
 
 pub use column::Column;
+
+#[cfg(test)]
+mod tests;

@@ -1,6 +1,6 @@
 -- The rows of a partition's bytes, held by the columns that were read from them.
-use Rattle.std.proofs.Common.{◌≡◌, ◌≤◌, ◌<◌, ◌+◌, ◌^◌, ◌∷◌, [], ◌∙◌, ℕ, zero, suc, List, Bool, Option, Some, None, true, false, refl, sym, ap, subst, inl, inr, length, map, get_or, arith}
-use Rattle.std.specs.Prelude.{nat_lt, nat_le, ◌&&◌, option_map, slice_get}
+use Rattle.std.proofs.Common.{◌≡◌, ◌≤◌, ◌<◌, ◌^◌, ◌∷◌, [], ◌∙◌, ℕ, zero, suc, List, Some, None, true, refl, sym, ap, inl, inr, length, get_or, arith}
+use Rattle.std.specs.Prelude.{nat_lt, nat_le, option_map, slice_get}
 use Rattle.std.specs.List.{list_all}
 use Rattle.std.proofs.lemmas.Bool.{and_parts, cases_lt, ltb-true}
 use Rattle.std.proofs.lemmas.List.{length-map}
@@ -10,7 +10,7 @@ use Rattle.hv_value.specs.declared.cell.Cell.TheVariants as cell
 use Rattle.hv_value.specs.Cells.{cell_at}
 use Rattle.hv_value.specs.Rows.{Row, base_rows, cell_in, column_of_records, records_of, rows_of_records}
 use Rattle.hv_value.specs.Schema.{Columns, has_fit_name, have_own_names, is_schema}
-use Rattle.hv_value.specs.Table.{IsTable, row_from}
+use Rattle.hv_value.specs.Table.{row_from}
 use Rattle.hv_value.specs.declared.schema.TheConstants.{MAX_COLUMNS}
 use Rattle.hv_value.proofs.RowsOfBytes.{few_records_of, rows_of_records-IsTable}
 use Rattle.hv_column.specs.Column.{ColumnCells}

@@ -5,7 +5,7 @@ use Rattle.hv_value.specs.declared.cell.Cell.{Cell}
 use Rattle.hv_value.specs.declared.cell.Kind.{Kind}
 use Rattle.std.specs.Prelude.{option_and_then}
 use Rattle.csv.specs.Records.{field_at}
-use Rattle.hv_value.specs.Rows.{cell_in, cell_of_found, column_of_records}
+use Rattle.hv_value.specs.Rows.{cell_in, cell_of_found}
 use Rattle.hv_value.specs.Schema.{Columns}
 use Rattle.hv_column.specs.Column.{ColumnCells}
 use Rattle.hv_column.specs.Rows.{columns_of_records}

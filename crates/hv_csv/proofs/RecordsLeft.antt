@@ -1,15 +1,14 @@
 -- The records that a text has left from a state, and those of a reader as it reads one.
-use Rattle.std.proofs.Common.{Bor, ◌≡◌, ◌≤◌, ◌<◌, ◌+◌, ◌∷◌, ◌⊎◌, [], ◌∙◌, ℕ, zero, suc, List, Bool, Option, Some, None, true, false, refl, sym, ap, subst, inl, inr, length, arith}
-use Rattle.std.specs.Prelude.{if◌then◌else◌, unwrap_or}
+use Rattle.std.proofs.Common.{Bor, ◌≡◌, ◌≤◌, ◌<◌, ◌+◌, ◌∷◌, ◌⊎◌, [], ◌∙◌, ℕ, zero, suc, List, Bool, Option, Some, None, true, false, refl, sym, ap, inl, inr, length, arith}
+use Rattle.std.specs.Prelude.{if◌then◌else◌}
 use Rattle.csv.specs.Machine.{Read, ends_at_end, next_record}
-use Rattle.csv.specs.Reading.{ReadRecord, ReadsOn, Reached, default_config, records, records_from, records_next}
-use Rattle.csv.specs.declared.parser.Config.{Config}
+use Rattle.csv.specs.Reading.{ReadRecord, Reached, default_config, records, records_from, records_next}
 use Rattle.csv.specs.declared.parser.State.{State}
 use Rattle.csv.specs.declared.parser.State.TheVariants as st
 use Rattle.csv.specs.declared.reader.Reader.{Reader}
 use Rattle.csv.proofs.ReadFacts.{rows-end, rows-more}
-use Rattle.hv_value.proofs.RecordsOfBytes.{few_records, few_records_from, weight}
-use Rattle.hv_csv.specs.Left.{IsNext, IsSetUp, bytes_left, records_in, records_left}
+use Rattle.hv_value.proofs.RecordsOfBytes.{few_records, few_records_from}
+use Rattle.hv_csv.specs.Left.{IsSetUp, bytes_left, records_in, records_left}
 
 -- a text has at most one record more than bytes from a state
 few_from : (n : ℕ) (s : State) (xs : List ℕ) → length (records_from default_config n s xs) ≤ length xs + 1

@@ -9,3 +9,6 @@ mod table;
 
 pub use part::read_part;
 pub use table::{BaseTable, base_table};
+
+#[cfg(test)]
+mod tests;

@@ -49,7 +49,16 @@ fn out_value(alloc: Global, line: u64, session: u32, reply: &Reply) -> Mem<Value
         (λ value. view value ≡ text.line_data line (what.Out session reply.now)) }
 {
     let said = reply_value(alloc, reply)?;
-    Ok(json!(in alloc; {"line": line, "out": said, "s": session})?)
+    Ok(out_line(alloc, line, session, said)?)
+}
+
+fn out_line(alloc: Global, line: u64, session: u32, said: Value) -> Result<Value, AllocError>
+    ensures { IfOk result (λ value. view value
+        ≡ object (member (codes "line") (text.whole line)
+        (member (codes "out") (view said)
+        (member (codes "s") (text.whole session) no_members)))) }
+{
+    json!(in alloc; {"line": line, "out": said, "s": session})
 }
 
 fn bad_value(alloc: Global, line: u64, bad: BadLine) -> Mem<Value>
@@ -106,13 +115,19 @@ fn last_word(alloc: Global, id: u64, numbers: Value, value: Value) -> Result<Val
 fn malformed_value(alloc: Global, id: Option<u64>, why: Why) -> Mem<Value>
     ensures { IfOk result (λ value. view value ≡ text.reply_data (reply.Malformed id why)) }
 {
-    Ok(json!(in alloc; {"error": "malformed", "id": id, "why": why_word(why)})?)
+    Ok(json!(in alloc; {"error": "malformed", "id": whole_or_null(id), "why": why_word(why)})?)
 }
 
 fn no_mem_value(alloc: Global, id: Option<u64>) -> Mem<Value>
     ensures { IfOk result (λ value. view value ≡ text.reply_data (reply.NoMem id)) }
 {
-    Ok(json!(in alloc; {"error": "nomem", "id": id})?)
+    Ok(json!(in alloc; {"error": "nomem", "id": whole_or_null(id)})?)
+}
+
+fn whole_or_null(n: Option<u64>) -> Value
+    ensures { view result ≡ text.whole_or_null n }
+{
+    Value::from(n)
 }
 
 fn why_word(why: Why) -> &'static str
@@ -147,14 +162,14 @@ fn range_with_sum(alloc: Global, range: &RangeSummary, sum: String) -> Result<Va
 {
     json!(in alloc; {
         "count": range.count,
-        "max": number_or_null(range.greatest),
-        "min": number_or_null(range.least),
+        "max": int_or_null(range.greatest),
+        "min": int_or_null(range.least),
         "missing": range.missing,
         "sum": sum,
     })
 }
 
-fn number_or_null(n: Option<i64>) -> Value
+fn int_or_null(n: Option<i64>) -> Value
     ensures { view result ≡ text.int_or_null n }
 {
     Value::from(n)

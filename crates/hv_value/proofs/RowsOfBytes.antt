@@ -1,5 +1,5 @@
 -- The rows of a partition's bytes: how many there are at most, and that they make a table.
-use Rattle.std.proofs.Common.{◌≡◌, ◌≤◌, ◌<◌, ◌+◌, ◌^◌, ◌∷◌, [], ℕ, zero, suc, List, Bool, Option, Some, None, true, false, refl, length, map, arith}
+use Rattle.std.proofs.Common.{◌≡◌, ◌≤◌, ◌+◌, ◌^◌, ◌∷◌, [], ℕ, List, Bool, Option, Some, None, true, false, refl, length, map, arith}
 use Rattle.std.specs.Prelude.{if◌then◌else◌, option_and_then, position, bytes_eq}
 use Rattle.csv.specs.Reading.{default_config, is_bom, strip_bom}
 use Rattle.csv.specs.Records.{field_at}

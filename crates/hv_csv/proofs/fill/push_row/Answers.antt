@@ -1,4 +1,4 @@
-use Rattle.std.proofs.Common.{◌<◌, ◌≡◌, None, length, ap, get_or, arith}
+use Rattle.std.proofs.Common.{None, length, ap, arith}
 use Rattle.csv.specs.Records.{fields_of}
 use Rattle.hv_column.specs.Column.{ColumnCells}
 use Rattle.hv_csv.proofs.Filling.{room-at, row-read, row-step}

@@ -1,6 +1,6 @@
 use Rattle.csv.specs.Records.{fields_of}
 use Rattle.hv_csv.specs.Left.{records_left}
-use Rattle.hv_csv.proofs.Filling.{pushes-all, pushes-more, pushes-room}
+use Rattle.hv_csv.proofs.Filling.{pushes-more, pushes-room}
 use Rattle.hv_csv.proofs.fill.push_rows.Goals as goal
 
 -- the record that was found has room

@@ -1,5 +1,4 @@
-use Rattle.std.proofs.Common.{◌≡◌, length}
-use Rattle.hv_csv.specs.Fill.{HaveRoom, with_rows}
+use Rattle.std.proofs.Common.{length}
 use Rattle.hv_csv.specs.Left.{IsSetUp, records_left}
 use Rattle.hv_csv.proofs.Filling.{Pushes}
 use Rattle.hv_csv.proofs.fill.push_rows.Given as goal

@@ -1,4 +1,4 @@
-use Rattle.std.proofs.Common.{◌≡◌, ◌<◌, ◌∙◌, List, ℕ, [], ap, sym, arith, length, get_or, below_more}
+use Rattle.std.proofs.Common.{◌<◌, ◌∙◌, [], ap, sym, arith, length, below_more}
 use Rattle.std.specs.Prelude.{bytes_eq}
 use Rattle.csv.specs.Records.{fields_of}
 use Rattle.csv.proofs.RecordFacts.{field-get, field-there}

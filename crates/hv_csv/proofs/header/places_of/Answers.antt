@@ -1,4 +1,4 @@
-use Rattle.std.proofs.Common.{◌≡◌, ◌∙◌, ℕ, List, Option, ap, map, refl, take}
+use Rattle.std.proofs.Common.{◌≡◌, ◌∙◌, ℕ, List, Option, ap, refl}
 use Rattle.std.specs.Prelude.{bytes_eq, position}
 use Rattle.csv.specs.Records.{fields_of}
 use Rattle.hv_value.specs.declared.cell.Kind.{Kind}

@@ -1,4 +1,4 @@
-use Rattle.std.proofs.Common.{◌≡◌, ℕ, List, [], refl}
+use Rattle.std.proofs.Common.{ℕ, List, [], refl}
 use Rattle.hv_value.specs.declared.cell.Kind.{Kind}
 use Rattle.hv_column.specs.Column.{ColumnCells}
 use Rattle.hv_csv.proofs.HeaderPlaces.{map-next}

@@ -1,4 +1,4 @@
-use Rattle.std.proofs.Common.{◌≡◌, ◌≤◌, ◌<◌, ◌^◌, ◌∷◌, ◌∙◌, ap, sym, length, map, arith}
+use Rattle.std.proofs.Common.{◌≡◌, ◌≤◌, ◌^◌, ◌∙◌, ap, sym, length, map, arith}
 use Rattle.csv.specs.Records.{fields_of}
 use Rattle.hv_value.proofs.RowsOfBytes.{few_records_of}
 use Rattle.hv_value.specs.Rows.{records_of}

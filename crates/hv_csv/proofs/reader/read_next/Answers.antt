@@ -1,5 +1,5 @@
-use Rattle.std.proofs.Common.{Bool, ℕ, List, Bor, true, false, ◌≡◌, Some, ◌∙◌}
-use Rattle.csv.specs.Reading.{ReadRecord, ReadsOn, Ready}
+use Rattle.std.proofs.Common.{Bool, ℕ, List, Bor, true, false, Some, ◌∙◌}
+use Rattle.csv.specs.Reading.{ReadRecord, ReadsOn}
 use Rattle.csv.specs.declared.reader.Reader.{Reader}
 use Rattle.hv_csv.specs.Left.{IsNext, IsSetUp, records_left}
 use Rattle.hv_csv.proofs.RecordsLeft.{next-found, next-none}

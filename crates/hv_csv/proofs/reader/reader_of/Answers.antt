@@ -1,4 +1,3 @@
-use Rattle.std.proofs.Common.{◌∙◌, refl}
 use Rattle.csv.specs.Reading.{strip_bom}
 use Rattle.hv_csv.specs.Left.{records_left}
 use Rattle.hv_csv.proofs.RecordsLeft.{left-start}

@@ -1,4 +1,4 @@
-use Rattle.std.proofs.Common.{◌≡◌, ◌<◌, ap, length, arith}
+use Rattle.std.proofs.Common.{◌<◌, ap, length, arith}
 use Rattle.hv_value.specs.Cells.{cell_lent}
 use Rattle.hv_csv.specs.Base.{TableRows}
 use Rattle.hv_csv.proofs.BaseRows.{cell-there, long-at, there-below}
