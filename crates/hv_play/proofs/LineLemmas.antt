@@ -54,6 +54,15 @@ pub script_lines-last : (xs : List ℕ) → 0 < length xs → ((m : ℕ) → m <
 unfolding script_lines
 script_lines-last xs some none = no_newline [] xs none ∙ last_of_some xs some
 
+newline_first : (rest : List ℕ) → script_lines (10 ∷ rest) ≡ [] ∷ script_lines rest
+unfolding script_lines
+newline_first rest = refl
+
+pub script_lines-newline : (rest : List ℕ) → 0 < length rest → get_or rest 0 0 ≡ 10 → script_lines rest ≡ [] ∷ script_lines (take (length rest - 1) (drop 1 rest))
+script_lines-newline [] some is = absurd (omega arith)
+script_lines-newline (b ∷ rest) some is =
+    ap (λ x. script_lines (x ∷ rest)) is ∙ newline_first rest ∙ ap (λ bytes. [] ∷ script_lines bytes) (sym (take_all (length (b ∷ rest) - 1) rest (omega arith)))
+
 pub script_lines-nil : script_lines [] ≡ []
 unfolding script_lines
 script_lines-nil = refl

@@ -193,6 +193,13 @@ pub rest_lines : (k : ℕ) (lines : List (List ℕ)) (line : List ℕ) (later : 
 rest_lines k lines line later talk next a b m n e done =
     subst (λ ls. DoneSoFar (script k ls ∷ []) talk (script (k + 1) later ∷ []) next a b m n) (sym e) done
 
+-- an empty line shows nothing
+pub empty_line_done : (k : ℕ) (lines later : List (List ℕ)) (talk : Talk) (taken : Option (List ℕ)) (count : ℕ) → lines ≡ [] ∷ later
+    → DoneSoFar (script k lines ∷ []) talk (script (k + 1) later ∷ []) talk taken taken count count
+empty_line_done k lines later talk taken count e =
+    rest_lines k lines [] later talk talk taken taken count count e
+    (line_done k [] later talk talk [] taken taken count count (shows_nothing talk) (Appends-nil taken) (omega arith))
+
 -- bytes of which none is left have no line
 pub no_lines : (rest : List ℕ) → (length rest == 0) ≡ true → script_lines rest ≡ []
 no_lines [] e = script_lines-nil

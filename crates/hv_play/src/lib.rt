@@ -11,6 +11,8 @@ mod output;
 mod ranges;
 mod run;
 mod session;
+#[cfg(test)]
+mod tests;
 mod texts;
 mod top;
 

@@ -1,6 +1,6 @@
 //! Doing a script's lines in order, and then the drain.
 
-ghost use Rattle.std.specs.Prelude.{◌≡◌, ◌≤◌, ◌<◌, ◌^◌, [], ◌∷◌, length, Some, IfOk, IfSome, OnOk, OnErr, option_to_list};
+ghost use Rattle.std.specs.Prelude.{◌≡◌, ◌≤◌, ◌<◌, ◌^◌, ◌+◌, [], ◌∷◌, length, Some, IfOk, IfSome, OnOk, OnErr, option_to_list};
 ghost use Rattle.serde_json.specs.Data.{depth};
 ghost use Rattle.serde_json.specs.Read.{max_depth};
 ghost use Rattle.serde_json.specs.View.{view};
@@ -75,6 +75,35 @@ fn do_line(alloc: Global, number: u64, session: &mut Session, line: &[u8]) -> Me
     }
 }
 
+/// Does the first line of bytes, and gives the bytes after it.
+fn do_next<'a, O: Sink>(
+    alloc: Global,
+    number: u64,
+    session: &mut Session,
+    rest: &'a [u8],
+    out: &mut O,
+) -> Result<&'a [u8], IoErr>
+    requires { 0 < length rest.now }
+    ensures ok { IfOk result (λ after. DoneSoFar (script number (script_lines rest.now) ∷ []) session.old
+        (script (number + 1) (script_lines after.now) ∷ []) session.new
+        (O.taken out.old) (O.taken out.new) (O.faults out.old) (O.faults out.new)) }
+    ensures shorter { IfOk result (λ after. length after.now < length rest.now) }
+    ensures err { OnErr result (CutShort (script number (script_lines rest.now) ∷ []) session.old (O.taken out.old) (O.taken out.new)) }
+    ensures cause { HasCause (O.faults out.old) (O.faults out.new) result }
+{
+    // A script may be millions of empty lines, which show nothing.
+    if rest[0] == b'\n' {
+        return Ok(&rest[1..]);
+    }
+    let (line, after) = split_line(rest);
+    let entry = match do_line(alloc, number, session, line) {
+        Ok(entry) => entry,
+        Err(_) => return Err(IoErr::Memory),
+    };
+    write_entry(alloc, &entry, out)?;
+    Ok(after)
+}
+
 /// Does the lines of a script, and gives the number of the drain's lines: one more than there are.
 fn do_lines<O: Sink>(
     alloc: Global,
@@ -83,20 +112,16 @@ fn do_lines<O: Sink>(
     out: &mut O,
 ) -> Result<u64, IoErr>
     requires { length bytes.now < 2 ^ 40 }
-    ensures ok { IfOk result (λ number. DoneSoFar (script 1 (script_lines bytes.now) ∷ []) session.old (drain number ∷ []) session.new (O.taken out.old) (O.taken out.new) (O.faults out.old) (O.faults out.new)) }
+    ensures ok { IfOk result (λ number. DoneSoFar (script 1 (script_lines bytes.now) ∷ []) session.old
+        (drain number ∷ []) session.new
+        (O.taken out.old) (O.taken out.new) (O.faults out.old) (O.faults out.new)) }
     ensures err { OnErr result (CutShort (script 1 (script_lines bytes.now) ∷ []) session.old (O.taken out.old) (O.taken out.new)) }
     ensures cause { HasCause (O.faults out.old) (O.faults out.new) result }
 {
     let mut rest = bytes;
     let mut number: u64 = 1;
     while !rest.is_empty() {
-        let (line, after) = split_line(rest);
-        let entry = match do_line(alloc, number, session, line) {
-            Ok(entry) => entry,
-            Err(_) => return Err(IoErr::Memory),
-        };
-        write_entry(alloc, &entry, out)?;
-        rest = after;
+        rest = do_next(alloc, number, session, rest, out)?;
         number += 1;
     }
     Ok(number)

@@ -1,20 +1,21 @@
 -- The range of no rows, of one row and of joined lists, and that its counts and its sum fit.
-use Rattle.std.proofs.Common.{◌≡◌, ◌≤◌, ◌+◌, ◌*◌, ◌^◌, ◌∷◌, ◌++◌, [], ℕ, List, Option, Some, None, refl, sym, ap, subst, length, arith, ◌∙◌}
-use Rattle.std.specs.Prelude.{ℤ, pos, neg_ℤ, ◌+ℤ◌, ◌≤ℤ◌, fold, FitsSigned}
+use Rattle.std.proofs.Common.{refl, ◌≡◌, ◌≤◌, ◌+◌, ◌*◌, ◌^◌, ◌∷◌, ◌++◌, [], ℕ, List, Option, Some, None, sym, ap, subst, length, arith, ◌∙◌}
+use Rattle.std.specs.Prelude.{IsPermutation, ℤ, pos, neg_ℤ, ◌+ℤ◌, ◌≤ℤ◌, fold, FitsSigned}
 use Rattle.std.specs.Int.{w64}
 use Rattle.std.specs.List.{AllByRecursion, cons_option}
 use Rattle.std.proofs.lemmas.Int.{ints}
 use Rattle.std.proofs.lemmas.List.{length-append}
 use Rattle.std.proofs.lemmas.List.Sums.{count_by-le-length}
-use Rattle.hv_sketch.proofs.Swaps.{all-join}
+use Rattle.hv_sketch.proofs.AnyOrder.{in_any_order}
+use Rattle.hv_sketch.proofs.Swaps.{all-join, sum-swap}
 use Rattle.hv_value.specs.declared.cell.Cell.{Cell}
 use Rattle.hv_value.specs.declared.cell.Cell.TheVariants as cell
 use Rattle.hv_value.specs.Cells.{cell_at}
 use Rattle.hv_value.specs.Rows.{Row}
 use Rattle.hv_range.specs.IsRange.{IsRange}
-use Rattle.hv_range.specs.Range.{is_missing, number_in, numbers, range_of}
-use Rattle.hv_range.specs.RangeLaws.{numbers-append, range-append, sum-append}
-use Rattle.hv_range.specs.RangeSums.{CanAdd, IsSmall, cell_range, range_sum}
+use Rattle.hv_range.specs.Range.{is_missing, range_of, number_in, numbers}
+use Rattle.hv_range.specs.RangeLaws.{numbers-append, range-append, range_sum-regroup, range_sum-turn, sum-append}
+use Rattle.hv_range.specs.RangeSums.{CanAdd, IsSmall, cell_range, empty_range, range_sum}
 use Rattle.hv_range.specs.declared.summary.RangeSummary.{RangeSummary}
 
 -- no more numbers than rows
@@ -59,8 +60,8 @@ IsRange-append col a b s t first second few =
     }
 
 -- the range of no rows
-pub IsRange-none : (col : ℕ) → IsRange col [] (range_of col [])
-IsRange-none col = record { few = omega arith; small = tt; is = refl }
+pub IsRange-none : (col : ℕ) (s : RangeSummary) → s ≡ empty_range → IsRange col [] s
+IsRange-none col s is = record { few = omega arith; small = tt; is = is }
 
 zero_add_ℤ : (n : ℤ) → n ≡ pos 0 +ℤ n
 zero_add_ℤ n = omega (arith, ints)
@@ -73,3 +74,9 @@ with_sum n sum = record { count = 1; missing = 0; least = Some n; greatest = Som
 pub IsRange-one : (col : ℕ) (row : Row) (c : Cell) (s : RangeSummary) → c ≡ cell_at row.cells col → IsSmall c → s ≡ cell_range c → IsRange col (row ∷ []) s
 IsRange-one col row cell.Missing s at small is = record { few = omega arith; small = rw (← at) tt; is = rw (← at) is }
 IsRange-one col row (cell.Int n) s at small is = record { few = omega arith; small = rw (← at) (small, tt); is = rw (← at) (is ∙ ap (with_sum n) (zero_add_ℤ n)) }
+
+-- the range doesn't depend on the order of the rows
+pub range_of-any_order : (col : ℕ) (xs ys : List Row) → IsPermutation xs ys → range_of col xs ≡ range_of col ys
+range_of-any_order col xs ys order =
+    in_any_order (λ rows. range_of col xs ≡ range_of col rows)
+    (λ a b c is. is ∙ sum-swap (range_of col) range_sum range_sum-regroup range_sum-turn (range-append col) a b c) xs ys order refl

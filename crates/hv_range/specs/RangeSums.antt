@@ -11,6 +11,10 @@ join op None y = y
 join op (Some m) None = Some m
 join op (Some m) (Some n) = Some (op m n)
 
+-- the range of no rows
+abbrev pub empty_range : RangeSummary
+empty_range = record { count = 0; missing = 0; least = None; greatest = None; sum = pos 0 }
+
 -- the range of one cell
 abbrev pub cell_range : Cell → RangeSummary
 cell_range cell.Missing = record { count = 0; missing = 1; least = None; greatest = None; sum = pos 0 }

@@ -3,6 +3,8 @@
 
 mod range;
 mod summary;
+#[cfg(test)]
+mod tests;
 
 pub use range::Range;
 pub use summary::RangeSummary;

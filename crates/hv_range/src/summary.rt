@@ -1,11 +1,10 @@
 //! The range of a column as a value: that of no rows, of one cell, and of the rows of two ranges
 //! (specs/Range.antt, specs/RangeSums.antt).
 
-ghost use Rattle.std.specs.Prelude.{◌≡◌, ℕ, []};
+ghost use Rattle.std.specs.Prelude.{◌≡◌};
 ghost use Rattle.std.specs.Int.{int_min, int_max};
 ghost use Rattle.hv_value.specs.Cells.{cell_lent};
-ghost use Rattle.hv_range.specs.Range.{range_of};
-ghost use Rattle.hv_range.specs.RangeSums.{CanAdd, IsSmall, cell_range, join, range_sum};
+ghost use Rattle.hv_range.specs.RangeSums.{CanAdd, IsSmall, cell_range, empty_range, join, range_sum};
 
 use hv_value::CellRef;
 
@@ -26,7 +25,7 @@ pub struct RangeSummary {
 
 /// The range of no rows.
 pub(crate) fn empty() -> RangeSummary
-    ensures { (col : ℕ) → result ≡ range_of col [] }
+    ensures { result ≡ empty_range }
 {
     RangeSummary {
         count: 0,
@@ -44,11 +43,8 @@ pub(crate) fn of_cell(cell: CellRef) -> RangeSummary
 {
     match cell {
         CellRef::Missing => RangeSummary {
-            count: 0,
             missing: 1,
-            least: None,
-            greatest: None,
-            sum: 0,
+            ..empty()
         },
         CellRef::Int(n) => RangeSummary {
             count: 1,

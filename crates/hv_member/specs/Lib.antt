@@ -1,0 +1,5 @@
+pub mod Bits
+pub mod Kept
+pub mod Member
+pub mod PartSet
+pub mod Sets
