@@ -1,5 +1,5 @@
 -- Tables that a message brings with it, and their rows.
-use Rattle.std.specs.Prelude.{ℕ, zero, suc, ◌+◌, List, [], ◌∷◌, ◌++◌, length, get_or, Bool, ◌&&◌, nat_lt, nat_le, flat_map}
+use Rattle.std.specs.Prelude.{ℕ, zero, suc, List, [], ◌∷◌, ◌++◌, length, get_or, Bool, ◌&&◌, nat_lt, nat_le, flat_map}
 use Rattle.std.specs.List.{list_all}
 use Rattle.hv_value.specs.Rows.{Row, base_rows}
 use Rattle.hv_value.specs.Schema.{Columns}

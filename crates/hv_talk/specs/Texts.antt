@@ -1,7 +1,7 @@
 -- The texts of replies and output lines: compact JSON as the crate serde_json prints it, keys in byte order.
 use Rattle.std.specs.Prelude.{ℕ, ℤ, List, [], ◌∷◌, ◌++◌, map, true, Option, Some, None, codes}
 use Rattle.std.specs.Fmt.{signed_decimal}
-use Rattle.serde_json.specs.Data.{Data, null, boolean, number, string, array, object, Members, member, no_members, unsigned}
+use Rattle.serde_json.specs.Data.{Data, null, boolean, number, string, array, object, member, no_members, unsigned}
 use Rattle.serde_json.specs.Find.{of_integer}
 use Rattle.serde_json.specs.View.{items_of}
 use Rattle.serde_json.specs.Written.{compact_text}

@@ -1,5 +1,5 @@
 -- Cells and their kinds: this project's own rule.
-use Rattle.std.specs.Prelude.{Bool, true, false, List, get_or, ℕ}
+use Rattle.std.specs.Prelude.{Bool, true, List, get_or, ℕ}
 use Rattle.hv_value.specs.declared.cell.Kind.{Kind}
 use Rattle.hv_value.specs.declared.cell.Kind.TheVariants as kind
 use Rattle.hv_value.specs.declared.cell.Cell.{Cell}

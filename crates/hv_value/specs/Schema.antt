@@ -1,5 +1,5 @@
 -- A schema: the names and kinds of a table's columns, in order.
-use Rattle.std.specs.Prelude.{ℕ, List, [], ◌∷◌, length, Bool, true, not, ◌&&◌, nat_lt, nat_le, Option, position, map, bytes_eq}
+use Rattle.std.specs.Prelude.{ℕ, List, [], ◌∷◌, length, Bool, true, not, ◌&&◌, nat_lt, nat_le, Option, position, bytes_eq}
 use Rattle.std.specs.List.{list_all, list_any}
 use Rattle.hv_value.specs.declared.cell.Kind.{Kind}
 use Rattle.hv_value.specs.declared.schema.TheConstants.{MAX_COLUMNS, MAX_NAME_BYTES}
