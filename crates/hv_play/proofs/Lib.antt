@@ -6,3 +6,4 @@ pub mod StepLemmas
 pub mod TalkLemmas
 pub mod TextLemmas
 pub mod ValueLemmas
+pub mod WorkedRows
