@@ -1,4 +1,5 @@
 pub mod AskedLemmas
+pub mod CutLemmas
 pub mod LineLemmas
 pub mod PartLemmas
 pub mod RunLemmas

@@ -1,5 +1,5 @@
 -- Worked rows: scripts and the outputs that the definition of a right output gives for them, computed from bytes to bytes.
-use Rattle.std.proofs.Common.{◌≡◌, ◌∙◌, refl, sym, ap, subst, ℕ, ◌+◌, pos, negsuc, List, [], ◌∷◌, ◌++◌, Bool, true, false, Option, Some, None, codes, append-nil, inl}
+use Rattle.std.proofs.Common.{◌≡◌, ◌∙◌, refl, sym, ap, subst, ℕ, ◌+◌, pos, negsuc, List, [], ◌∷◌, ◌++◌, true, false, Option, Some, None, codes, append-nil, inl}
 use Rattle.std.specs.Prelude.{if◌then◌else◌}
 use Rattle.std.specs.Str.{is_utf8, chars}
 use Rattle.std.specs.Char.{encode_utf8}
@@ -199,6 +199,11 @@ rightly {events} {last} bytes output lines e run text =
       is_output = (refl, sym text);
     }
 
+-- a front of an output that is right as a whole is right where the output ended early
+begun : (bytes front rest : List ℕ) → IsTrace one_session whole bytes (front ++ rest) → IsTrace one_session early bytes front
+begun bytes front rest right =
+    record { events = right.events; last = right.last; left = right.left; runs = right.runs; is_output = (rest, sym right.is_output.1) }
+
 -- ---- the empty script
 
 empty_lines : script_lines [] ≡ []
@@ -250,6 +255,16 @@ range_text = refl
 
 pub the_range_of_a_column : IsTrace one_session whole range_script range_output
 the_range_of_a_column = rightly range_script range_output (load_line ∷ view_line ∷ []) range_lines (loads_and_views [] (drains 3)) range_text
+
+-- the same output where it ended early, within its second line
+abbrev pub range_front : List ℕ
+range_front = codes "{\"line\":1,\"out\":{\"id\":1,\"made\":0},\"s\":0}\n{\"line\":3,\"o"
+
+abbrev pub range_rest : List ℕ
+range_rest = codes "ut\":{\"id\":2,\"last\":true,\"parts\":[0,1],\"value\":{\"count\":3,\"max\":9,\"min\":-2,\"missing\":1,\"sum\":\"12\"}},\"s\":0}\n"
+
+pub the_range_begun : IsTrace one_session early range_script range_front
+the_range_begun = begun range_script range_front range_rest the_range_of_a_column
 
 -- ---- a view of an object that isn't there
 

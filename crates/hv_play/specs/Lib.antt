@@ -1,4 +1,5 @@
 pub mod Asked
+pub mod Laws
 pub mod Outcome
 pub mod Run
 pub mod Script

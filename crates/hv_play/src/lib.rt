@@ -5,6 +5,7 @@
 
 mod fields;
 mod floats;
+pub mod laws;
 mod lines;
 mod messages;
 mod output;

@@ -1,0 +1,12 @@
+//! What holds of every run of a script, as contracts of calls that do nothing. What they speak of
+//! is defined in specs/Run.antt and specs/Laws.antt.
+
+ghost use Rattle.std.specs.Prelude.{ℕ, List, ◌++◌};
+ghost use Rattle.hv_talk.specs.declared.entry.Entry.{Entry};
+ghost use Rattle.hv_play.specs.Run.{Setting};
+ghost use Rattle.hv_play.specs.Laws.{ShowsLines};
+
+/// An output may be cut after any of its lines: the lines up to there are those of a run too.
+pub fn outputs_can_be_cut()
+    ensures cut { (g : Setting) (script : List ℕ) (front rest : List Entry) → ShowsLines g script (front ++ rest) → ShowsLines g script front }
+{}
