@@ -1,4 +1,5 @@
--- Words of 64 bits as a set of numbers.
+-- Words of 64 bits as a set of numbers. Only the model of `PartSet` and private calls name this; no clause of a public call
+-- does.
 use Rattle.std.specs.Prelude.{◌≡◌, ℕ, ◌/◌, ◌%◌, ◌^◌, ◌<◌, ◌≤◌, Bool, true, false, List, length, ◌==◌, slice_index, filter, Option, None, Some}
 use Rattle.std.specs.Int.{bit_at, div_ceil}
 use Rattle.hv_member.specs.Sets.{numbers}

@@ -1,4 +1,4 @@
--- How a `Member` keeps its rows.
+-- How a `Member` keeps its rows. Only its model names this; no clause of a public call does.
 use Rattle.std.specs.Prelude.{ℕ, List}
 use Rattle.hv_member.specs.declared.member.Kept.{Kept}
 use Rattle.hv_member.specs.declared.member.Kept.TheVariants.{Full, Listed}

@@ -1,7 +1,7 @@
 //! The rows of a partition that are still in it, whatever was filtered. Contracts see the rising list of their
 //! numbers, all below the number of rows that the base partition has.
 
-ghost use Rattle.std.specs.Prelude.{◌≡◌, ℕ, ◌+◌, ◌≤◌, List, [], length, ◌&&◌, ◌||◌, not, IfOk};
+ghost use Rattle.std.specs.Prelude.{◌≡◌, ℕ, ◌+◌, ◌^◌, ◌<◌, ◌≤◌, List, [], length, ◌&&◌, ◌||◌, not, IfOk};
 ghost use Rattle.hv_member.specs.Sets.{is_in, IsSetBelow, numbers, common, joined, minus, next_from};
 
 use crate::lists::{first_from, has, in_both, in_either, in_left_only, not_in};
@@ -80,6 +80,7 @@ impl Member {
         ensures value { result ≡ length self.now.rows }
         ensures set { IsSetBelow self.now.size self.now.rows }
         ensures within { length self.now.rows ≤ self.now.size }
+        ensures small { self.now.size < 2 ^ 32 }
     {
         let size = self.size;
         match &self.kept {

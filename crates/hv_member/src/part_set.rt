@@ -1,7 +1,7 @@
 //! A set of partitions of a table. Contracts see the rising list of their numbers, all below the number of
 //! partitions that the table has.
 
-ghost use Rattle.std.specs.Prelude.{◌≡◌, ◌<◌, ◌≤◌, true, [], length, IfOk};
+ghost use Rattle.std.specs.Prelude.{◌≡◌, ◌^◌, ◌<◌, ◌≤◌, true, [], length, IfOk};
 ghost use Rattle.hv_member.specs.Sets.{is_in, IsSetBelow, numbers, inserted, has_all, exceeds, next_from};
 
 use crate::words::{are_within, first_bit, has_bit, set_bit};
@@ -65,6 +65,7 @@ impl PartSet {
         ensures value { result ≡ length self.now.parts }
         ensures set { IsSetBelow self.now.size self.now.parts }
         ensures within { length self.now.parts ≤ self.now.size }
+        ensures small { self.now.size < 2 ^ 32 }
     {
         self.count
     }
