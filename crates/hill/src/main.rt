@@ -2,10 +2,14 @@
 //! reads one from standard input and writes what it shows to standard output.
 #![tactic(auto)]
 
+ghost use Rattle.std.specs.Prelude.{◌≡◌, ◌⊎◌};
+ghost use Rattle.std.specs.Io.KnownBytes.{Appends};
+ghost use Rattle.hv_outer.specs.Causes.{Rose};
+
 mod help;
 
 use help::{HELP, VERSION, asks_help, asks_version};
-use hv_outer::{ReadSource, Sink, WriteSink, put_all};
+use hv_outer::{IoErr, ReadSource, Sink, WriteSink, put_all};
 use hv_play::{DONE, NO_MEMORY, READ_FAULT, TOO_LONG, USAGE, WRITE_FAULT, play};
 use std::alloc::Global;
 use std::process::ExitCode;
@@ -31,10 +35,15 @@ fn status_without_words(error: &io::Error) -> u8 {
 }
 
 /// Writes a text of the program's own, and gives the status.
-fn say<O: Sink>(out: &mut O, text: &str) -> u8 {
+fn say<O: Sink>(out: &mut O, text: &str) -> u8
+    ensures done { result ≡ DONE → Appends (O.taken out.old) (O.taken out.new) text.now }
+    ensures write_fault { result ≡ WRITE_FAULT → Rose (O.faults out.old) (O.faults out.new) }
+    ensures status { (result ≡ DONE) ⊎ (result ≡ WRITE_FAULT) ⊎ (result ≡ NO_MEMORY) }
+{
     match put_all(out, text.as_bytes()) {
         Ok(()) => DONE,
-        Err(_) => WRITE_FAULT,
+        Err(IoErr::Failed) => WRITE_FAULT,
+        Err(IoErr::Memory) => NO_MEMORY,
     }
 }
 

@@ -1,9 +1,9 @@
 -- The partitions of a table that a message brought, one after another.
-use Rattle.std.proofs.Common.{◌≡◌, ◌∙◌, sym, refl, ap, subst, ℕ, zero, suc, ◌+◌, ◌<◌, ◌≤◌, ◌^◌, List, [], ◌∷◌, ◌++◌, length, get_or, Bool, true, false, Option, Some, None, add-one, append-nil, arith}
+use Rattle.std.proofs.Common.{◌≡◌, ◌∙◌, sym, refl, ap, subst, ℕ, zero, suc, ◌+◌, ◌<◌, ◌≤◌, ◌^◌, List, [], ◌∷◌, ◌++◌, length, Bool, true, false, Some, add-one, append-nil}
 use Rattle.std.proofs.lemmas.Bool.{ltb-true, leb-true}
 use Rattle.std.proofs.lemmas.Grind.{flat_map-append}
 use Rattle.std.proofs.lemmas.Option.{get_or_from_slice_get}
-use Rattle.std.specs.Prelude.{◌&&◌, nat_lt, nat_le, slice_get}
+use Rattle.std.specs.Prelude.{◌&&◌, nat_le, slice_get}
 use Rattle.std.specs.List.{list_all}
 use Rattle.hv_value.specs.Rows.{Row, base_rows}
 use Rattle.hv_talk.specs.declared.inline.TheConstants.{MAX_PARTITIONS, MAX_PARTITION_BYTES}

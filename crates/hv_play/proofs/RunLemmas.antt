@@ -1,5 +1,5 @@
 -- Runs of duties joined, and the output lines among their events.
-use Rattle.std.proofs.Common.{◌≡◌, ◌∙◌, sym, refl, ap, subst, List, [], ◌∷◌, ◌++◌, append_assoc, append-nil, Option, Some, None}
+use Rattle.std.proofs.Common.{◌≡◌, ◌∙◌, sym, refl, ap, subst, List, [], ◌∷◌, ◌++◌, append_assoc, append-nil, Option}
 use Rattle.std.specs.Prelude.{option_to_list}
 use Rattle.hv_talk.specs.declared.entry.Entry.{Entry}
 use Rattle.hv_talk.specs.Texts.{entries_text, entry_text}

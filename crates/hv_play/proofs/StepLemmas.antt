@@ -1,7 +1,7 @@
 -- What the calls that do a line or answer a request have shown, put together.
-use Rattle.std.proofs.Common.{◌≡◌, ◌∙◌, sym, refl, ap, subst, ℕ, suc, ◌+◌, ◌≤◌, List, [], ◌∷◌, ◌++◌, map, length, Bool, true, false, Option, Some, None, append_assoc, append-nil, arith}
+use Rattle.std.proofs.Common.{◌≡◌, ◌∙◌, sym, refl, ap, subst, ℕ, ◌+◌, ◌≤◌, List, [], ◌∷◌, ◌++◌, map, length, Bool, true, false, Option, Some, None, append_assoc, append-nil, arith}
 use Rattle.std.proofs.lemmas.Bool.{eq-eqb, eqb-true, lt-ltb}
-use Rattle.std.specs.Prelude.{◌==◌, ◌||◌, nat_lt, if◌then◌else◌, find, option_to_list, Result, Ok, Err, OnOk, OnErr}
+use Rattle.std.specs.Prelude.{◌==◌, ◌||◌, nat_lt, if◌then◌else◌, find, Result, Ok, Err, OnOk, OnErr}
 use Rattle.std.specs.Io.KnownBytes.{Appends}
 use Rattle.std.proofs.KnownBytes.{Appends-nil, Appends-trans}
 use Rattle.hv_outer.specs.Turns.{AppendsFront}
@@ -9,9 +9,9 @@ use Rattle.hv_talk.specs.declared.entry.BadLine.{BadLine}
 use Rattle.hv_talk.specs.declared.entry.Entry.{Entry}
 use Rattle.hv_talk.specs.declared.message.OpenRequest.{OpenRequest}
 use Rattle.hv_talk.specs.declared.reply.Reply.{Reply}
-use Rattle.hv_talk.specs.Talk.{Talk, new_talk, Due, Pays, Replies, Answers, due_reply, after_due, closed}
-use Rattle.hv_talk.specs.Texts.{entries_text, entry_text}
-use Rattle.hv_play.specs.Run.{Setting, State, Duty, script, drain, refusing, hearing, saying, ticking, treating, Event, comes, written, Did, Does, Says, Treats, Runs, stays, does, entries_of, out, bad_entry, duties_of, treatings, is_waiting, is_anything_open, drain_duties, request_with, talk_of, with_talk, one_session, round, Ending, whole, early, IsTrace}
+use Rattle.hv_talk.specs.Talk.{Talk, new_talk, Due, Pays, Replies, due_reply, after_due, closed}
+use Rattle.hv_talk.specs.Texts.{entries_text}
+use Rattle.hv_play.specs.Run.{State, Duty, script, drain, refusing, hearing, saying, ticking, treating, Event, comes, written, Does, Says, Treats, Runs, stays, does, entries_of, out, bad_entry, duties_of, treatings, is_anything_open, talk_of, with_talk, one_session, round, whole, early}
 use Rattle.serde_json.specs.Data.{Data}
 use Rattle.serde_json.specs.Written.{compact_text}
 use Rattle.hv_talk.specs.declared.entry.BadLine.TheVariants as bad_line

@@ -1,5 +1,5 @@
 -- What a session owes after a text, and that it was paid.
-use Rattle.std.proofs.Common.{◌≡◌, ◌∙◌, sym, refl, ap, subst, ℕ, ◌<◌, ◌≤◌, List, [], ◌∷◌, ◌++◌, length, Bool, true, false, Option, Some, None, inl, inr, arith}
+use Rattle.std.proofs.Common.{◌≡◌, ◌∙◌, sym, refl, ap, subst, ℕ, ◌<◌, ◌≤◌, List, [], ◌∷◌, ◌++◌, length, Bool, true, false, Option, Some, None}
 use Rattle.std.proofs.lemmas.Bool.{le-leb, lt-leb}
 use Rattle.std.specs.Prelude.{◌⊎◌, nat_le, if◌then◌else◌, option_and_then}
 use Rattle.serde_json.specs.Data.{Data}
@@ -13,7 +13,7 @@ use Rattle.hv_talk.specs.declared.reply.Reply.TheVariants.{Made, Malformed, NoMe
 use Rattle.hv_talk.specs.declared.reply.Why.TheVariants.{Unread}
 use Rattle.hv_talk.specs.Inline.{Inline}
 use Rattle.hv_talk.specs.Messages.{message_of, message_in, id_of_text}
-use Rattle.hv_talk.specs.Talk.{Talk, Due, answers, makes, Pays, Replies, Hears, served, refused, after_message, due_reply, after_due}
+use Rattle.hv_talk.specs.Talk.{Talk, answers, makes, Pays, Replies, served, refused, after_message}
 
 -- a session that owes nothing, as it is
 none_due : (talk : Talk) → talk.due ≡ [] → talk ≡ record talk { due = [] }

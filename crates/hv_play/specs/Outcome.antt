@@ -1,5 +1,5 @@
 -- What a play of a script leaves behind: what was read, what was written, and how they belong together.
-use Rattle.std.specs.Prelude.{◌≡◌, ◌≤◌, ℕ, List, [], ◌∷◌, length, Bool, false, Option, Result, Ok, Err, bytes_eq, codes, String, string_bytes}
+use Rattle.std.specs.Prelude.{◌≤◌, ℕ, List, [], ◌∷◌, length, Bool, false, Option, Result, Ok, Err, bytes_eq, codes, String, string_bytes}
 use Rattle.std.specs.declared.alloc.Global.{Global}
 use Rattle.std.specs.Io.KnownBytes.{Appends, Consumes, IsAtEnd}
 use Rattle.hv_outer.specs.declared.io_err.IoErr.{IoErr}

@@ -1,6 +1,6 @@
 -- Which output is right for a script: a run of duties. A duty is something that is still to be done; one table (`Does`)
 -- says for the first duty what it shows, which state it leaves, and which duties come in its place. This project's own rule.
-use Rattle.std.specs.Prelude.{◌≡◌, ℕ, ◌+◌, List, [], ◌∷◌, ◌++◌, length, map, flat_map, get_or, slice_set, replicate, Bool, false, not, nat_lt, if◌then◌else◌, Option, Some, None, option_to_list, find, ◌==◌}
+use Rattle.std.specs.Prelude.{◌≡◌, ℕ, ◌+◌, List, [], ◌∷◌, ◌++◌, length, map, get_or, slice_set, replicate, Bool, nat_lt, if◌then◌else◌, Option, Some, None, option_to_list, find, ◌==◌}
 use Rattle.std.specs.List.{list_any}
 use Rattle.hv_talk.specs.declared.entry.BadLine.{BadLine}
 use Rattle.hv_talk.specs.declared.entry.Entry.{Entry}

@@ -1,6 +1,4 @@
-use Rattle.std.proofs.Common.{◌≡◌, ◌∷◌, ◌<◌, ◌+◌, ◌-◌, List, ℕ, length, take, drop, sym, subst, arith, add-one, length-drop}
-use Rattle.std.proofs.lemmas.List.{take_all}
-use Rattle.hv_play.specs.Script.{script_lines}
+use Rattle.std.proofs.Common.{arith}
 use Rattle.hv_play.proofs.LineLemmas.{script_lines-split, script_lines-last, rest_after}
 use Rattle.hv_play.proofs.lines.split_line.Goals as goal
 

@@ -1,4 +1,3 @@
-use Rattle.std.proofs.Common.{◌≤◌, length}
 use Rattle.hv_sketch.specs.Parts.{AreBefore}
 use Rattle.hv_talk.specs.Inline.{below, flat_rows}
 use Rattle.hv_play.proofs.ranges.summary_of.Given as goal

@@ -1,8 +1,5 @@
-use Rattle.std.proofs.Common.{◌∷◌, [], sym, ◌∙◌, subst, ap, Some}
+use Rattle.std.proofs.Common.{◌∷◌, [], sym, subst, Some}
 use Rattle.serde_json.specs.View.{view}
-use Rattle.hv_talk.specs.Talk.{Replies}
-use Rattle.serde_json.specs.Written.{compact_text}
-use Rattle.std.specs.Prelude.{option_to_list}
 use Rattle.hv_play.specs.Script.{line_of_value}
 use Rattle.hv_play.specs.Run.{duties_of}
 use Rattle.hv_play.specs.Steps.{Shows}

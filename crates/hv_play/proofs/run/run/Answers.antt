@@ -1,4 +1,4 @@
-use Rattle.std.proofs.Common.{◌∷◌, [], subst, sym}
+use Rattle.std.proofs.Common.{◌∷◌, [], subst}
 use Rattle.hv_play.specs.Run.{script, drain}
 use Rattle.hv_play.specs.Script.{script_lines}
 use Rattle.hv_play.specs.Steps.{DoneSoFar}

@@ -1,4 +1,4 @@
-use Rattle.std.proofs.Common.{◌≡◌, ◌∙◌, ◌∷◌, [], None, sym, ap, subst, inr}
+use Rattle.std.proofs.Common.{◌∙◌, ◌∷◌, [], None, sym, ap, subst, inr}
 use Rattle.std.specs.Prelude.{option_and_then}
 use Rattle.hv_talk.specs.declared.reply.Reply.TheVariants.{Malformed, NoMem}
 use Rattle.hv_talk.specs.declared.reply.Why.TheVariants.{Unread}

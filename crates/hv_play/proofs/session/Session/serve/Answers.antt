@@ -1,10 +1,7 @@
-use Rattle.std.proofs.Common.{◌≡◌, ◌∙◌, ◌<◌, ◌∷◌, [], length, true, Some, None, sym, ap, subst}
-use Rattle.hv_talk.specs.declared.message.Message.TheVariants as Message
-use Rattle.hv_talk.specs.declared.message.TheConstants.{MAX_OBJECTS}
+use Rattle.std.proofs.Common.{◌∙◌, ◌∷◌, [], Some, None, sym, ap, subst}
 use Rattle.hv_talk.specs.declared.reply.Reply.TheVariants.{Malformed}
 use Rattle.hv_talk.specs.declared.reply.Why.TheVariants.{Unread}
 use Rattle.hv_talk.specs.Talk.{Pays, after_message}
-use Rattle.hv_play.specs.Asked.{is_asked}
 use Rattle.hv_play.proofs.AskedLemmas.{load_has_room, view_is_asked}
 use Rattle.hv_play.proofs.TalkLemmas.{message_in-same, pays_malformed}
 use Rattle.hv_play.proofs.session.Session.serve.Goals as goal
