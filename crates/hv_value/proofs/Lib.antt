@@ -1,3 +1,4 @@
+pub mod DayLemmas
 pub mod RecordsOfBytes
 pub mod RowsOfBytes
 pub mod TableFacts

@@ -1,14 +1,18 @@
 -- The rows of a partition's bytes: how many there are at most, and that they make a table.
 use Rattle.std.proofs.Common.{◌≡◌, ◌≤◌, ◌+◌, ◌^◌, ◌∷◌, [], ℕ, List, Bool, Option, Some, None, true, false, refl, length, map, arith}
 use Rattle.std.specs.Prelude.{if◌then◌else◌, option_and_then, position, bytes_eq}
+use Rattle.std.specs.Str.{is_utf8}
 use Rattle.csv.specs.Reading.{default_config, is_bom, strip_bom}
 use Rattle.csv.specs.Records.{field_at}
 use Rattle.hv_value.proofs.RecordsOfBytes.{few_records}
+use Rattle.hv_value.proofs.DayLemmas.{found-is_day_number}
 use Rattle.hv_value.specs.Cells.{is_of_kind}
+use Rattle.hv_value.specs.Days.{day_of_text}
 use Rattle.hv_value.specs.Number.{int_of_text}
-use Rattle.hv_value.specs.Rows.{base_rows, int_cell, cell_in, cell_of_found, records_of, rows_from, rows_of_records}
+use Rattle.hv_value.specs.Rows.{base_rows, int_cell, date_cell, cell_in, cell_of_found, records_of, rows_from, rows_of_records}
 use Rattle.hv_value.specs.Schema.{Columns}
 use Rattle.hv_value.specs.Table.{AreRowsFrom, IsTable, have_kinds}
+use Rattle.hv_value.specs.declared.cell.Cell.TheVariants as cell
 use Rattle.hv_value.specs.declared.cell.Kind.{Kind}
 use Rattle.hv_value.specs.declared.cell.Kind.TheVariants as kind
 
@@ -36,6 +40,16 @@ found-is_of_kind kind.Int (Some field) = by (int_of_text field)
     by : (n : Option _) → is_of_kind kind.Int (int_cell n) ≡ true
     by None = refl
     by (Some n) = refl
+found-is_of_kind kind.Date (Some field) = by (day_of_text field) refl
+  where
+    by : (day : Option _) → day_of_text field ≡ day → is_of_kind kind.Date (date_cell day) ≡ true
+    by None e = refl
+    by (Some day) e = found-is_day_number field day e
+found-is_of_kind kind.Text (Some field) = by (is_utf8 field)
+  where
+    by : (valid : Bool) → is_of_kind kind.Text (if valid then cell.Text field else cell.Missing) ≡ true
+    by true = refl
+    by false = refl
 
 -- a record's cells are of the columns' kinds
 pub record-have_kinds : (columns : Columns) (header fields : List (List ℕ)) → have_kinds columns (map (cell_in header fields) columns) ≡ true

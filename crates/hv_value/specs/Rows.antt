@@ -1,11 +1,13 @@
 -- The rows of a partition's bytes: the records that the crate csv defines, read under a schema by this project's own rule.
-use Rattle.std.specs.Prelude.{ℕ, ◌+◌, ℤ, List, [], ◌∷◌, map, Option, Some, None, option_and_then, position, bytes_eq}
+use Rattle.std.specs.Prelude.{ℕ, ◌+◌, ℤ, List, [], ◌∷◌, map, Option, Some, None, option_and_then, position, bytes_eq, if◌then◌else◌}
+use Rattle.std.specs.Str.{is_utf8}
 use Rattle.csv.specs.Reading.{records, default_config, strip_bom}
 use Rattle.csv.specs.Records.{field_at}
 use Rattle.hv_value.specs.declared.cell.Kind.{Kind}
 use Rattle.hv_value.specs.declared.cell.Kind.TheVariants as kind
 use Rattle.hv_value.specs.declared.cell.Cell.{Cell}
 use Rattle.hv_value.specs.declared.cell.Cell.TheVariants as cell
+use Rattle.hv_value.specs.Days.{day_of_text}
 use Rattle.hv_value.specs.Number.{int_of_text}
 use Rattle.hv_value.specs.Schema.{Columns}
 
@@ -20,9 +22,16 @@ abbrev pub int_cell : Option ℤ → Cell
 int_cell None = cell.Missing
 int_cell (Some n) = cell.Int n
 
--- what a field reads as in a column of the kind: missing where it doesn't read
+-- a day where there is one, else missing
+abbrev pub date_cell : Option ℤ → Cell
+date_cell None = cell.Missing
+date_cell (Some day) = cell.Date day
+
+-- what a field reads as in a column of the kind: missing where it doesn't read, as a text that isn't UTF-8
 abbrev pub cell_of_field : Kind → List ℕ → Cell
 cell_of_field kind.Int field = int_cell (int_of_text field)
+cell_of_field kind.Date field = date_cell (day_of_text field)
+cell_of_field kind.Text field = if is_utf8 field then cell.Text field else cell.Missing
 
 -- the same of a field that may be absent, and is missing then
 abbrev pub cell_of_found : Kind → Option (List ℕ) → Cell

@@ -16,7 +16,7 @@ pub fn int_of(text: &[u8]) -> Option<i64>
 }
 
 /// The number that one or more ASCII digits write, below 2^64.
-fn number_of(digits: &[u8]) -> Option<u64>
+pub(crate) fn number_of(digits: &[u8]) -> Option<u64>
     ensures { result ≡ u64_of_text digits.now }
 {
     if digits.is_empty() {

@@ -35,7 +35,7 @@ pub trait Table {
         ensures { result ≡ option_map (λ row. row.number) (row_from from (rows self.now)) };
 
     /// The cell in a row that is there, at a column's place from 0.
-    fn cell(&self, row: u32, col: u32) -> CellRef
+    fn cell(&self, row: u32, col: u32) -> CellRef<'_>
         requires row_there { option_map (λ found. found.number) (row_from row (rows self.now)) ≡ Some row }
         requires col_there { col < length (columns self.now) }
         ensures { (found : Row) → row_from row (rows self.now) ≡ Some found → cell_lent result ≡ cell_at found.cells col };
