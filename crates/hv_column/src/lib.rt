@@ -3,6 +3,7 @@
 
 mod column;
 mod nullable;
+mod texts;
 
 pub use column::Column;
 

@@ -1,4 +1,5 @@
 mod BaseRows
+mod Fields
 mod Filling
 mod HeaderPlaces
 mod RecordsLeft

@@ -10,5 +10,3 @@ mod table;
 pub use part::read_part;
 pub use table::{BaseTable, base_table};
 
-#[cfg(test)]
-mod tests;

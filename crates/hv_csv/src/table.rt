@@ -51,7 +51,7 @@ impl Table for BaseTable<'_> {
         if from < self.count { Some(from) } else { None }
     }
 
-    fn cell(&self, row: u32, col: u32) -> CellRef {
+    fn cell(&self, row: u32, col: u32) -> CellRef<'_> {
         self.cols[col as usize].cell(row)
     }
 }
