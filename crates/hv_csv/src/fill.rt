@@ -86,7 +86,12 @@ fn push_field(alloc: Global, column: &mut Column, place: Option<usize>, row: &By
 }
 
 /// Pushes a row's fields into the columns of their places.
-fn push_row(alloc: Global, cols: &mut [Column], places: &[Option<usize>], row: &ByteRecord) -> Mem<()>
+fn push_row(
+    alloc: Global,
+    cols: &mut [Column],
+    places: &[Option<usize>],
+    row: &ByteRecord,
+) -> Mem<()>
     requires room { HaveRoom 1 cols.old }
     requires places { length places.now ≡ length cols.old }
     ensures { OnOk result (cols.new ≡ with_row places.now (fields_of row.now) cols.old) }

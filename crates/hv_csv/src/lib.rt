@@ -10,3 +10,5 @@ mod table;
 pub use part::read_part;
 pub use table::{BaseTable, base_table};
 
+#[cfg(test)]
+mod tests;

@@ -8,10 +8,12 @@ use Rattle.hv_value.specs.Cells.{cell_at}
 use Rattle.hv_value.specs.Rows.{Row}
 use Rattle.hv_range.specs.declared.summary.RangeSummary.{RangeSummary}
 
--- the number that a cell holds, none where it is missing
+-- the whole number that a cell holds, none where it holds none
 abbrev pub number_of : Cell → Option ℤ
 number_of cell.Missing = None
 number_of (cell.Int n) = Some n
+number_of (cell.Date day) = None
+number_of (cell.Text text) = None
 
 -- the number in a row's cell of the column
 abbrev pub number_in : ℕ → Row → Option ℤ
@@ -25,6 +27,8 @@ numbers col rows = filter_map (number_in col) rows
 abbrev pub is_missing : Cell → Bool
 is_missing cell.Missing = true
 is_missing (cell.Int n) = false
+is_missing (cell.Date day) = false
+is_missing (cell.Text text) = false
 
 -- how many rows have a missing cell in the column
 abbrev pub missing_count : ℕ → List Row → ℕ

@@ -19,11 +19,15 @@ empty_range = record { count = 0; missing = 0; least = None; greatest = None; su
 abbrev pub cell_range : Cell → RangeSummary
 cell_range cell.Missing = record { count = 0; missing = 1; least = None; greatest = None; sum = pos 0 }
 cell_range (cell.Int n) = record { count = 1; missing = 0; least = Some n; greatest = Some n; sum = n }
+cell_range (cell.Date day) = record { count = 0; missing = 0; least = None; greatest = None; sum = pos 0 }
+cell_range (cell.Text text) = record { count = 0; missing = 0; least = None; greatest = None; sum = pos 0 }
 
 -- a cell's number is of 64 bits, where there is one
 abbrev pub IsSmall : Cell → Type 0
 IsSmall cell.Missing = Unit {0}
 IsSmall (cell.Int n) = FitsSigned w64 n
+IsSmall (cell.Date day) = Unit {0}
+IsSmall (cell.Text text) = Unit {0}
 
 -- the range of the rows of both
 abbrev pub range_sum : RangeSummary → RangeSummary → RangeSummary

@@ -1,7 +1,7 @@
 //! The range of a column as a value: that of no rows, of one cell, and of the rows of two ranges
 //! (specs/Range.antt, specs/RangeSums.antt).
 
-ghost use Rattle.std.specs.Prelude.{◌≡◌};
+ghost use Rattle.std.specs.Prelude.{◌≡◌, ℕ, pos, [], None};
 ghost use Rattle.std.specs.Int.{int_min, int_max};
 ghost use Rattle.hv_value.specs.Cells.{cell_lent};
 ghost use Rattle.hv_range.specs.RangeSums.{CanAdd, IsSmall, cell_range, empty_range, join, range_sum};
@@ -27,9 +27,16 @@ pub struct RangeSummary {
 pub(crate) fn empty() -> RangeSummary
     ensures { result ≡ empty_range }
 {
+    without_numbers(0)
+}
+
+/// The range of rows without a number, so many of them with a missing cell.
+fn without_numbers(missing: u64) -> RangeSummary
+    ensures { result ≡ record { count = 0; missing = missing; least = None; greatest = None; sum = pos 0 } }
+{
     RangeSummary {
         count: 0,
-        missing: 0,
+        missing,
         least: None,
         greatest: None,
         sum: 0,
@@ -37,15 +44,12 @@ pub(crate) fn empty() -> RangeSummary
 }
 
 /// The range of one cell.
-pub(crate) fn of_cell(cell: CellRef) -> RangeSummary
-    ensures value { result ≡ cell_range (cell_lent cell) }
-    ensures small { IsSmall (cell_lent cell) }
+pub(crate) fn of_cell(cell: CellRef<'_>) -> RangeSummary
+    ensures value { result ≡ cell_range (cell_lent cell.entry) }
+    ensures small { IsSmall (cell_lent cell.entry) }
 {
     match cell {
-        CellRef::Missing => RangeSummary {
-            missing: 1,
-            ..empty()
-        },
+        CellRef::Missing => without_numbers(1),
         CellRef::Int(n) => RangeSummary {
             count: 1,
             missing: 0,
@@ -53,6 +57,8 @@ pub(crate) fn of_cell(cell: CellRef) -> RangeSummary
             greatest: Some(n),
             sum: n as i128,
         },
+        CellRef::Date(_) => without_numbers(0),
+        CellRef::Text(_) => without_numbers(0),
     }
 }
 

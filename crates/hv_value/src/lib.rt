@@ -18,3 +18,6 @@ pub use order::compare;
 pub use schema::{MAX_COLUMNS, MAX_NAME_BYTES, Schema, SchemaErr};
 pub use table::{MAX_ROWS, Table};
 pub use text::Text;
+
+#[cfg(test)]
+mod tests;
