@@ -1,7 +1,9 @@
 pub mod AskedLemmas
 pub mod CutLemmas
 pub mod LineLemmas
+pub mod OnlyRun
 pub mod PartLemmas
+pub mod RowSteps
 pub mod RunLemmas
 pub mod StepLemmas
 pub mod TalkLemmas

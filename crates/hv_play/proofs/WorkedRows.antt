@@ -1,6 +1,5 @@
 -- Worked rows: scripts and the outputs that the definition of a right output gives for them, computed from bytes to bytes.
-use Rattle.std.proofs.Common.{◌≡◌, ◌∙◌, refl, sym, ap, subst, ℕ, ◌+◌, pos, negsuc, List, [], ◌∷◌, ◌++◌, true, false, Option, Some, None, codes, append-nil, inl}
-use Rattle.std.specs.Prelude.{if◌then◌else◌}
+use Rattle.std.proofs.Common.{◌≡◌, ◌∙◌, refl, ap, subst, ℕ, pos, negsuc, List, [], ◌∷◌, map, Some, None, codes}
 use Rattle.std.specs.Str.{is_utf8, chars}
 use Rattle.std.specs.Char.{encode_utf8}
 use Rattle.std.specs.Fmt.{digits}
@@ -13,10 +12,8 @@ use Rattle.hv_value.specs.Number.{int_of_text}
 use Rattle.hv_value.specs.Rows.{Row, base_rows}
 use Rattle.hv_range.specs.declared.summary.RangeSummary.{RangeSummary}
 use Rattle.hv_range.specs.Range.{range_of}
-use Rattle.hv_talk.specs.declared.entry.BadLine.{BadLine}
 use Rattle.hv_talk.specs.declared.entry.BadLine.TheVariants as bad_line
 use Rattle.hv_talk.specs.declared.entry.Entry.{Entry}
-use Rattle.hv_talk.specs.declared.message.Message.{Message}
 use Rattle.hv_talk.specs.declared.message.Message.TheVariants.{Load, View}
 use Rattle.hv_talk.specs.declared.message.OpenRequest.{OpenRequest}
 use Rattle.hv_talk.specs.declared.reply.Reply.{Reply}
@@ -24,11 +21,13 @@ use Rattle.hv_talk.specs.declared.reply.Reply.TheVariants.{Made, Final, Malforme
 use Rattle.hv_talk.specs.declared.reply.Why.TheVariants.{Unread}
 use Rattle.hv_talk.specs.Inline.{Inline, whole_rows}
 use Rattle.hv_talk.specs.Messages.{message_in, message_of}
-use Rattle.hv_talk.specs.Talk.{Talk, Due, new_talk, answers, makes, served, after_message, due_reply, after_due, final_reply, closed}
+use Rattle.hv_talk.specs.Talk.{Talk, new_talk, answers, makes, final_reply}
 use Rattle.hv_talk.specs.Texts.{entry_text, entries_text}
-use Rattle.hv_play.specs.Run.{Duty, script, drain, refusing, hearing, saying, ticking, treating, Event, comes, written, Runs, stays, does, Treats, out, bad_entry, entries_of, duties_of, treatings, is_anything_open, request_with, one_session, whole, early, IsTrace}
-use Rattle.hv_play.specs.Script.{Line, line_of, hears, bad, script_lines}
+use Rattle.hv_play.specs.Run.{script, drain, Event, comes, written, Runs, out, bad_entry, entries_of, one_session, whole, early, IsTrace}
+use Rattle.hv_play.specs.Script.{line_of, empty, hears, bad, script_lines}
 use Rattle.hv_play.specs.Steps.{at}
+use Rattle.hv_play.proofs.OnlyRun.{first_step, rest_from, shown_from, nothing_left}
+use Rattle.hv_play.proofs.RowSteps.{a_line, no_line, a_bad_line, a_text, what_is_owed, nothing_owed, a_round, no_round, an_answer, IsRow, row, begun, Goes, session}
 
 -- ---- what lines ask for
 
@@ -59,6 +58,12 @@ view_asks = refl
 cut_asks : line_of cut_line ≡ bad bad_line.Json
 unfolding serde_json_on_literals is_utf8 chars encode_utf8 digits
 cut_asks = refl
+
+-- an empty line is passed over; what is no object isn't a line, nor is an object of no form or with a number that isn't whole
+other_lines : map line_of ([] ∷ codes "[]" ∷ codes "{\"s\":0}" ∷ codes "{\"s\":1,\"msg\":{}}" ∷ codes "{\"s\":0,\"msg\":[]}" ∷ codes "{\"s\":0,\"msg\":{\"id\":1.5}}" ∷ codes " {\"msg\":{ },\"s\":0} " ∷ [])
+    ≡ empty ∷ bad bad_line.Json ∷ bad bad_line.Line ∷ bad bad_line.Line ∷ bad bad_line.Line ∷ bad bad_line.Line ∷ hears 0 (codes "{}") ∷ []
+unfolding serde_json_on_literals is_utf8 chars encode_utf8 digits
+other_lines = refl
 
 -- ---- what messages mean
 
@@ -104,105 +109,17 @@ rows_range = refl
 last_word : final_reply (table ∷ []) request ≡ Final 2 2 range
 last_word = ap (λ rs. Final 2 2 (range_of 0 rs)) table_rows ∙ ap (Final 2 2) rows_range
 
--- ---- a step, and then the rest of a run
+-- what fields read as: a minus sign and digits, within 64 bits
+fields : map int_of_text (codes "007" ∷ codes "-0" ∷ codes "+1" ∷ codes "" ∷ codes "-" ∷ codes "9223372036854775807" ∷ codes "9223372036854775808" ∷ codes "-9223372036854775808" ∷ [])
+    ≡ Some (pos 7) ∷ Some (pos 0) ∷ None ∷ None ∷ None ∷ Some (pos 9223372036854775807) ∷ None ∷ Some (negsuc 9223372036854775807) ∷ []
+unfolding int_of_text
+fields = refl
 
--- the one session goes from a talk through these duties to the last talk, and nothing is left to be done
-abbrev Goes : Talk → List Duty → List Event → Talk → Type 0
-Goes talk todo events last = Runs one_session (at talk) todo events (at last) []
-
-abbrev session : List Inline → List OpenRequest → List Due → Talk
-session objects requests due = record { objects = objects; requests = requests; due = due }
-
-a_line : {talk last : Talk} {events : List Event} (k : ℕ) (line : List ℕ) (lines : List (List ℕ)) (asks : Line) → line_of line ≡ asks
-    → Goes talk (duties_of k asks ++ script (k + 1) lines ∷ []) events last → Goes talk (script k (line ∷ lines) ∷ []) events last
-a_line {talk} {last} {events} k line lines asks e run =
-    let duties = duties_of k asks ++ script (k + 1) lines ∷ [] in
-    does (at talk) (at talk) (at last) (script k (line ∷ lines)) duties [] [] None events
-    (record { shows = refl; leaves = refl; brings = ap (λ a. duties_of k a ++ script (k + 1) lines ∷ []) (sym e) })
-    (subst (λ todo. Goes talk todo events last) (sym (append-nil duties)) run)
-
-no_line : {talk last : Talk} {events : List Event} (k : ℕ) → Goes talk (drain k ∷ []) events last → Goes talk (script k [] ∷ []) events last
-no_line {talk} {last} {events} k run =
-    does (at talk) (at talk) (at last) (script k []) (drain k ∷ []) [] [] None events (record { shows = refl; leaves = refl; brings = refl }) run
-
-a_bad_line : {talk last : Talk} {events : List Event} {todo : List Duty} (k : ℕ) (why : BadLine)
-    → Goes talk todo events last → Goes talk (refusing k why ∷ todo) (written (bad_entry k why) ∷ events) last
-a_bad_line {talk} {last} {events} {todo} k why run =
-    does (at talk) (at talk) (at last) (refusing k why) [] todo [] (Some (written (bad_entry k why))) events (record { shows = refl; leaves = refl; brings = refl }) run
-
--- a text is heard, and memory suffices
-a_text : {objects : List Inline} {requests : List OpenRequest} {last : Talk} {events : List Event} {todo : List Duty} (k : ℕ) (text : List ℕ) (message : Option Message)
-    → message_of objects requests text ≡ message → Goes (after_message (session objects requests []) message) (saying k 0 ∷ todo) events last
-    → Goes (session objects requests []) (hearing k 0 text ∷ todo) (comes 0 text ∷ events) last
-a_text {objects} {requests} {last} {events} {todo} k text message e run =
-    let talk = session objects requests [] in
-    let next = after_message talk message in
-    does (at talk) (at next) (at last) (hearing k 0 text) (saying k 0 ∷ []) todo [] (Some (comes 0 text)) events (
-      next,
-      record { nothing_due = refl; how = served; is_hearing = tt; next_is = ap (after_message talk) (sym e) },
-      record { shows = refl; leaves = refl; brings = refl },
-    ) run
-
-what_is_owed : {objects : List Inline} {requests : List OpenRequest} {later : List Due} {last : Talk} {events : List Event} {todo : List Duty} (k : ℕ) (due : Due)
-    → Goes (after_due (session objects requests (due ∷ later)) due) (saying k 0 ∷ todo) events last
-    → Goes (session objects requests (due ∷ later)) (saying k 0 ∷ todo) (written (out k 0 (due_reply (session objects requests (due ∷ later)) due)) ∷ events) last
-what_is_owed {objects} {requests} {later} {last} {events} {todo} k due run =
-    let talk = session objects requests (due ∷ later) in
-    does (at talk) (at (after_due talk due)) (at last) (saying k 0) (saying k 0 ∷ []) todo [] (Some (written (out k 0 (due_reply talk due)))) events
-    (record { shows = refl; leaves = refl; brings = refl }) run
-
-nothing_owed : {objects : List Inline} {requests : List OpenRequest} {last : Talk} {events : List Event} {todo : List Duty} (k : ℕ)
-    → Goes (session objects requests []) todo events last → Goes (session objects requests []) (saying k 0 ∷ todo) events last
-nothing_owed {objects} {requests} {last} {events} {todo} k run =
-    let talk = session objects requests [] in
-    does (at talk) (at talk) (at last) (saying k 0) [] todo [] None events (record { shows = refl; leaves = refl; brings = refl }) run
-
-a_round : {talk last : Talk} {events : List Event} (k : ℕ) → is_anything_open (at talk) ≡ true
-    → Goes talk (treatings k 0 talk.requests ++ drain k ∷ []) events last → Goes talk (drain k ∷ []) events last
-a_round {talk} {last} {events} k e run =
-    does (at talk) (at talk) (at last) (drain k) (ticking k 0 ∷ drain k ∷ []) [] [] None events
-    (record { shows = refl; leaves = refl; brings = ap (λ b. if b then ticking k 0 ∷ drain k ∷ [] else []) (sym e) })
-    (does (at talk) (at talk) (at last) (ticking k 0) (treatings k 0 talk.requests) (drain k ∷ []) [] None events (record { shows = refl; leaves = refl; brings = refl }) run)
-
-no_round : {talk : Talk} (k : ℕ) → is_anything_open (at talk) ≡ false → Goes talk (drain k ∷ []) [] talk
-no_round {talk} k e =
-    does (at talk) (at talk) (at talk) (drain k) [] [] [] None []
-    (record { shows = refl; leaves = refl; brings = ap (λ b. if b then ticking k 0 ∷ drain k ∷ [] else []) (sym e) }) (stays (at talk) [])
-
--- a request gets its last word, and memory suffices
-an_answer : {objects : List Inline} {requests : List OpenRequest} {last : Talk} {events : List Event} {todo : List Duty} (k id : ℕ) (asked : OpenRequest) (reply : Reply)
-    → request_with id (session objects requests []) ≡ Some asked → final_reply objects asked ≡ reply
-    → Goes (session objects (closed asked.id requests) []) todo events last
-    → Goes (session objects requests []) (treating k 0 id ∷ todo) (written (out k 0 reply) ∷ events) last
-an_answer {objects} {requests} {last} {events} {todo} k id asked reply found is run =
-    let talk = session objects requests [] in
-    let next = session objects (closed asked.id requests) [] in
-    let event = Some (written (out k 0 reply)) in
-    does (at talk) (at next) (at last) (treating k 0 id) [] todo [] event events
-    (subst (λ found. Treats (at talk) k 0 found event (at next) []) (sym found) (
-      reply,
-      refl,
-      inl (sym is),
-      record { shows = refl; leaves = refl; brings = refl },
-    ))
-    run
-
--- the text of what a script's lines show is right for the script
-rightly : {events : List Event} {last : Talk} (bytes output : List ℕ) (lines : List (List ℕ)) → script_lines bytes ≡ lines → Goes new_talk (script 1 lines ∷ []) events last
-    → entries_text (entries_of events) ≡ output → IsTrace one_session whole bytes output
-rightly {events} {last} bytes output lines e run text =
-    record {
-      events = events;
-      last = at last;
-      left = [];
-      runs = subst (λ ls. Goes new_talk (script 1 ls ∷ []) events last) (sym e) run;
-      is_output = (refl, sym text);
-    }
-
--- a front of an output that is right as a whole is right where the output ended early
-begun : (bytes front rest : List ℕ) → IsTrace one_session whole bytes (front ++ rest) → IsTrace one_session early bytes front
-begun bytes front rest right =
-    record { events = right.events; last = right.last; left = right.left; runs = right.runs; is_output = (rest, sym right.is_output.1) }
+-- a byte order mark, lines that end by both bytes and an empty line are none of the rows; a column without a name in the header is missing
+marked_rows : base_rows ((codes "y", kind.Int) ∷ (codes "x", kind.Int) ∷ []) 3 (239 ∷ 187 ∷ 191 ∷ codes "x\r\n\r\n5\r\n\"6\"")
+    ≡ record { part = 3; number = 0; cells = cell.Missing ∷ cell.Int (pos 5) ∷ [] } ∷ record { part = 3; number = 1; cells = cell.Missing ∷ cell.Int (pos 6) ∷ [] } ∷ []
+unfolding base_rows csv_on_literals field_at int_of_text
+marked_rows = refl
 
 -- ---- the empty script
 
@@ -210,32 +127,52 @@ empty_lines : script_lines [] ≡ []
 unfolding script_lines
 empty_lines = refl
 
-pub empty_script : IsTrace one_session whole [] []
-empty_script = rightly [] [] [] empty_lines (no_line 1 (no_round 1 refl)) refl
+pub empty_script : IsRow [] []
+empty_script = row [] [] [] empty_lines (no_line 1 (no_round 1 refl)) refl refl
+
+-- whatever memory does, the empty script shows nothing
+pub nothing_else : (output : List ℕ) → IsTrace one_session whole [] output → output ≡ []
+nothing_else output trace =
+    let start = at new_talk in
+    let run : Runs one_session start (script 1 [] ∷ []) trace.events trace.last trace.left =
+    subst (λ ls. Runs one_session start (script 1 ls ∷ []) trace.events trace.last trace.left) empty_lines trace.runs in
+    let a = first_step one_session start trace.last (script 1 [] ∷ []) trace.left trace.events run trace.is_output.0 (script 1 []) [] refl in
+    let b = first_step one_session start trace.last (drain 1 ∷ []) [] a.later (rest_from a a.step) refl (drain 1) [] refl in
+    let none = nothing_left one_session start trace.last [] [] b.later (rest_from b b.step) refl in
+    trace.is_output.1 ∙ ap (λ es. entries_text (entries_of es)) (shown_from a a.step ∙ shown_from b b.step ∙ none)
 
 -- ---- a load and the range of its column
+
+-- a line that loads a table as object 0, and what the view of its first column comes to
+record IsLoad (line text : List ℕ) (loaded : Inline) (last_word : Reply) : Type 0 where
+  asks : line_of line ≡ hears 0 text
+  means : message_of [] [] text ≡ Some (Load 1 loaded)
+  views : message_of (loaded ∷ []) [] view_text ≡ Some (View request)
+  answers : final_reply (loaded ∷ []) request ≡ last_word
 
 abbrev made : Entry
 made = out 1 0 (Made 1 0)
 
-abbrev answered : ℕ → Entry
-answered k = out k 0 (Final 2 2 range)
-
 -- the load makes the object, and the view opens the request
-loads_and_views : {events : List Event} {last : Talk} (lines : List (List ℕ)) → Goes (session (table ∷ []) (request ∷ []) []) (script 3 lines ∷ []) events last
-    → Goes new_talk (script 1 (load_line ∷ view_line ∷ lines) ∷ []) (comes 0 load_text ∷ written made ∷ comes 0 view_text ∷ events) last
-loads_and_views lines run =
-    a_line 1 load_line (view_line ∷ lines) (hears 0 load_text) load_asks (
-    a_text 1 load_text (Some (Load 1 table)) load_means (
-    what_is_owed 1 (makes 1 table) (
+loads_and_views : {line text : List ℕ} {loaded : Inline} {last_word : Reply} {events : List Event} {last : Talk} (lines : List (List ℕ)) → IsLoad line text loaded last_word
+    → Goes (session (loaded ∷ []) (request ∷ []) []) (script 3 lines ∷ []) events last
+    → Goes new_talk (script 1 (line ∷ view_line ∷ lines) ∷ []) (comes 0 text ∷ written made ∷ comes 0 view_text ∷ events) last
+loads_and_views {line} {text} {loaded} lines load run =
+    a_line 1 line (view_line ∷ lines) (hears 0 text) load.asks (
+    a_text 1 text (Some (Load 1 loaded)) load.means (
+    what_is_owed 1 (makes 1 loaded) (
     nothing_owed 1 (
     a_line 2 view_line lines (hears 0 view_text) view_asks (
-    a_text 2 view_text (Some (View request)) view_means (
+    a_text 2 view_text (Some (View request)) load.views (
     nothing_owed 2 run))))))
 
 -- the drain answers the request
-drains : (k : ℕ) → Goes (session (table ∷ []) (request ∷ []) []) (script k [] ∷ []) (written (answered k) ∷ []) (session (table ∷ []) [] [])
-drains k = no_line k (a_round k refl (an_answer k 2 request (Final 2 2 range) refl last_word (no_round k refl)))
+drains : {line text : List ℕ} {loaded : Inline} {last_word : Reply} (k : ℕ) → IsLoad line text loaded last_word
+    → Goes (session (loaded ∷ []) (request ∷ []) []) (script k [] ∷ []) (written (out k 0 last_word) ∷ []) (session (loaded ∷ []) [] [])
+drains {line} {text} {loaded} {last_word} k load = no_line k (a_round k refl (an_answer k 2 request last_word refl load.answers (no_round k refl)))
+
+the_load : IsLoad load_line load_text table (Final 2 2 range)
+the_load = record { asks = load_asks; means = load_means; views = view_means; answers = last_word }
 
 abbrev pub range_script : List ℕ
 range_script =
@@ -249,12 +186,12 @@ range_lines : script_lines range_script ≡ load_line ∷ view_line ∷ []
 unfolding script_lines
 range_lines = refl
 
-range_text : entries_text (made ∷ answered 3 ∷ []) ≡ range_output
+range_text : entries_text (made ∷ out 3 0 (Final 2 2 range) ∷ []) ≡ range_output
 unfolding entry_text serde_json_on_literals digits
 range_text = refl
 
-pub the_range_of_a_column : IsTrace one_session whole range_script range_output
-the_range_of_a_column = rightly range_script range_output (load_line ∷ view_line ∷ []) range_lines (loads_and_views [] (drains 3)) range_text
+pub the_range_of_a_column : IsRow range_script range_output
+the_range_of_a_column = row range_script range_output (load_line ∷ view_line ∷ []) range_lines (loads_and_views [] the_load (drains 3 the_load)) range_text refl
 
 -- the same output where it ended early, within its second line
 abbrev pub range_front : List ℕ
@@ -264,7 +201,56 @@ abbrev pub range_rest : List ℕ
 range_rest = codes "ut\":{\"id\":2,\"last\":true,\"parts\":[0,1],\"value\":{\"count\":3,\"max\":9,\"min\":-2,\"missing\":1,\"sum\":\"12\"}},\"s\":0}\n"
 
 pub the_range_begun : IsTrace one_session early range_script range_front
-the_range_begun = begun range_script range_front range_rest the_range_of_a_column
+the_range_begun = begun range_script range_front range_rest the_range_of_a_column.right
+
+-- ---- the range of no rows
+
+abbrev bare_line : List ℕ
+bare_line = codes "{\"s\":0,\"msg\":{\"id\":1,\"op\":\"load\",\"table\":{\"inline\":{\"parts\":[],\"schema\":[[\"x\",\"int\"]]}}}}"
+
+abbrev bare_text : List ℕ
+bare_text = codes "{\"id\":1,\"op\":\"load\",\"table\":{\"inline\":{\"parts\":[],\"schema\":[[\"x\",\"int\"]]}}}"
+
+abbrev bare : Inline
+bare = record { columns = (codes "x", kind.Int) ∷ []; parts = [] }
+
+abbrev no_range : RangeSummary
+no_range = record { count = 0; missing = 0; least = None; greatest = None; sum = pos 0 }
+
+bare_asks : line_of bare_line ≡ hears 0 bare_text
+unfolding serde_json_on_literals is_utf8 chars encode_utf8 digits
+bare_asks = refl
+
+bare_means : message_of [] [] bare_text ≡ Some (Load 1 bare)
+unfolding serde_json_on_literals message_in
+bare_means = refl
+
+view_of_bare : message_of (bare ∷ []) [] view_text ≡ Some (View request)
+unfolding serde_json_on_literals message_in
+view_of_bare = refl
+
+the_bare_load : IsLoad bare_line bare_text bare (Final 2 0 no_range)
+the_bare_load = record { asks = bare_asks; means = bare_means; views = view_of_bare; answers = refl }
+
+abbrev pub bare_script : List ℕ
+bare_script =
+    codes "{\"s\":0,\"msg\":{\"id\":1,\"op\":\"load\",\"table\":{\"inline\":{\"parts\":[],\"schema\":[[\"x\",\"int\"]]}}}}\n{\"s\":0,\"msg\":{\"id\":2,\"op\":\"view\",\"of\":0,\"view\":{\"col\":\"x\",\"kind\":\"range\"}}}\n"
+
+abbrev pub bare_output : List ℕ
+bare_output =
+    codes "{\"line\":1,\"out\":{\"id\":1,\"made\":0},\"s\":0}\n{\"line\":3,\"out\":{\"id\":2,\"last\":true,\"parts\":[],\"value\":{\"count\":0,\"max\":null,\"min\":null,\"missing\":0,\"sum\":\"0\"}},\"s\":0}\n"
+
+bare_lines : script_lines bare_script ≡ bare_line ∷ view_line ∷ []
+unfolding script_lines
+bare_lines = refl
+
+bare_out : entries_text (made ∷ out 3 0 (Final 2 0 no_range) ∷ []) ≡ bare_output
+unfolding entry_text serde_json_on_literals digits
+bare_out = refl
+
+pub the_range_of_no_rows : IsRow bare_script bare_output
+the_range_of_no_rows =
+    row bare_script bare_output (bare_line ∷ view_line ∷ []) bare_lines (loads_and_views [] the_bare_load (drains 3 the_bare_load)) bare_out refl
 
 -- ---- a view of an object that isn't there
 
@@ -282,14 +268,14 @@ view_out : entries_text (out 1 0 (Malformed None Unread) ∷ []) ≡ view_output
 unfolding entry_text serde_json_on_literals digits
 view_out = refl
 
-pub a_view_of_no_object : IsTrace one_session whole view_script view_output
+pub a_view_of_no_object : IsRow view_script view_output
 a_view_of_no_object =
-    rightly view_script view_output (view_line ∷ []) view_lines (
+    row view_script view_output (view_line ∷ []) view_lines (
     a_line 1 view_line [] (hears 0 view_text) view_asks (
     a_text 1 view_text None view_of_none (
     what_is_owed 1 (answers (Malformed None Unread)) (
     nothing_owed 1 (
-    no_line 2 (no_round 2 refl)))))) view_out
+    no_line 2 (no_round 2 refl)))))) view_out refl
 
 -- ---- a last line that is cut off: it is answered at once, and the request at the end
 
@@ -305,14 +291,14 @@ cut_lines : script_lines cut_script ≡ load_line ∷ view_line ∷ cut_line ∷
 unfolding script_lines
 cut_lines = refl
 
-cut_text : entries_text (made ∷ bad_entry 3 bad_line.Json ∷ answered 4 ∷ []) ≡ cut_output
+cut_text : entries_text (made ∷ bad_entry 3 bad_line.Json ∷ out 4 0 (Final 2 2 range) ∷ []) ≡ cut_output
 unfolding entry_text serde_json_on_literals digits
 cut_text = refl
 
-pub a_line_cut_off : IsTrace one_session whole cut_script cut_output
+pub a_line_cut_off : IsRow cut_script cut_output
 a_line_cut_off =
-    rightly cut_script cut_output (load_line ∷ view_line ∷ cut_line ∷ []) cut_lines (
-    loads_and_views (cut_line ∷ []) (
+    row cut_script cut_output (load_line ∷ view_line ∷ cut_line ∷ []) cut_lines (
+    loads_and_views (cut_line ∷ []) the_load (
     a_line 3 cut_line [] (bad bad_line.Json) cut_asks (
     a_bad_line 3 bad_line.Json (
-    drains 4)))) cut_text
+    drains 4 the_load)))) cut_text refl

@@ -76,3 +76,9 @@ IsRange-one col row cell.Missing s at small is = record { few = omega arith; sma
 IsRange-one col row (cell.Int n) s at small is = record { few = omega arith; small = rw (← at) (small, tt); is = rw (← at) (is ∙ ap (with_sum n) (zero_add_ℤ n)) }
 IsRange-one col row (cell.Date day) s at small is = record { few = omega arith; small = rw (← at) tt; is = rw (← at) is }
 IsRange-one col row (cell.Text text) s at small is = record { few = omega arith; small = rw (← at) tt; is = rw (← at) is }
+
+-- the range doesn't depend on the order of the rows
+pub range_of-any_order : (col : ℕ) (xs ys : List Row) → IsPermutation xs ys → range_of col xs ≡ range_of col ys
+range_of-any_order col xs ys order =
+    in_any_order (λ rows. range_of col xs ≡ range_of col rows)
+    (λ a b c is. is ∙ sum-swap (range_of col) range_sum range_sum-regroup range_sum-turn (range-append col) a b c) xs ys order refl

@@ -14,8 +14,8 @@ use std::test::Fail;
 struct TwoRows {
     schema: Schema,
     part: u32,
-    first: CellRef,
-    second: CellRef,
+    first: CellRef<'static>,
+    second: CellRef<'static>,
     ghost column: { schema ≡ (codes "x", kind.Int) ∷ [] },
 }
 
@@ -47,7 +47,7 @@ impl Table for TwoRows {
         }
     }
 
-    fn cell(&self, row: u32, _col: u32) -> CellRef {
+    fn cell(&self, row: u32, _col: u32) -> CellRef<'_> {
         if row == 3 { self.first } else { self.second }
     }
 }
@@ -59,7 +59,7 @@ fn one_column(alloc: Global) -> Result<Schema, Fail>
     Ok(Schema::new(columns)?)
 }
 
-fn two_rows(alloc: Global, part: u32, first: CellRef, second: CellRef) -> Result<TwoRows, Fail>
+fn two_rows(alloc: Global, part: u32, first: CellRef<'static>, second: CellRef<'static>) -> Result<TwoRows, Fail>
     ensures { IfOk result (λ table. table.part ≡ part) }
 {
     Ok(TwoRows {
@@ -70,7 +70,7 @@ fn two_rows(alloc: Global, part: u32, first: CellRef, second: CellRef) -> Result
     })
 }
 
-const LEAST: CellRef = CellRef::Int(i64::MIN);
+const LEAST: CellRef<'static> = CellRef::Int(i64::MIN);
 
 #[test]
 fn each_partition_adds_its_rows(rt: HostRuntime) -> Result<(), Fail> {
