@@ -1,6 +1,8 @@
 //! The range over small tables. Expected values are worked by hand.
 
 ghost use Rattle.std.specs.Prelude.{◌≡◌, [], ◌∷◌, codes, IfOk};
+ghost use Rattle.hv_value.specs.Cells.{cell_lent};
+ghost use Rattle.hv_value.specs.Rows.{int_cell};
 ghost use Rattle.hv_value.specs.declared.cell.Kind.TheVariants as kind;
 
 use crate::{Range, RangeSummary};
@@ -14,22 +16,22 @@ use std::test::Fail;
 struct TwoRows {
     schema: Schema,
     part: u32,
-    first: CellRef<'static>,
-    second: CellRef<'static>,
+    first: Option<i64>,
+    second: Option<i64>,
     ghost column: { schema ≡ (codes "x", kind.Int) ∷ [] },
 }
 
 impl Table for TwoRows {
     ghost use Rattle.std.specs.Prelude.{◌≡◌, [], ◌∷◌, codes};
-    ghost use Rattle.hv_value.specs.Cells.{cell_lent};
+    ghost use Rattle.hv_value.specs.Rows.{int_cell};
     ghost use Rattle.hv_value.specs.declared.cell.Kind.TheVariants as kind;
 
     ghost columns = { λ table. (codes "x", kind.Int) ∷ [] };
 
     ghost part_number = { λ table. table.part };
 
-    ghost rows = { λ table. record { part = table.part; number = 3; cells = cell_lent table.first ∷ [] }
-        ∷ record { part = table.part; number = 7; cells = cell_lent table.second ∷ [] } ∷ [] };
+    ghost rows = { λ table. record { part = table.part; number = 3; cells = int_cell table.first ∷ [] }
+        ∷ record { part = table.part; number = 7; cells = int_cell table.second ∷ [] } ∷ [] };
 
     fn schema(&self) -> &Schema {
         &self.schema
@@ -48,7 +50,17 @@ impl Table for TwoRows {
     }
 
     fn cell(&self, row: u32, _col: u32) -> CellRef<'_> {
-        if row == 3 { self.first } else { self.second }
+        lent(if row == 3 { self.first } else { self.second })
+    }
+}
+
+/// A cell of a whole number, or a missing one.
+fn lent(n: Option<i64>) -> CellRef<'static>
+    ensures { cell_lent result ≡ int_cell n }
+{
+    match n {
+        Some(n) => CellRef::Int(n),
+        None => CellRef::Missing,
     }
 }
 
@@ -59,7 +71,12 @@ fn one_column(alloc: Global) -> Result<Schema, Fail>
     Ok(Schema::new(columns)?)
 }
 
-fn two_rows(alloc: Global, part: u32, first: CellRef<'static>, second: CellRef<'static>) -> Result<TwoRows, Fail>
+fn two_rows(
+    alloc: Global,
+    part: u32,
+    first: Option<i64>,
+    second: Option<i64>,
+) -> Result<TwoRows, Fail>
     ensures { IfOk result (λ table. table.part ≡ part) }
 {
     Ok(TwoRows {
@@ -70,13 +87,13 @@ fn two_rows(alloc: Global, part: u32, first: CellRef<'static>, second: CellRef<'
     })
 }
 
-const LEAST: CellRef<'static> = CellRef::Int(i64::MIN);
+const LEAST: Option<i64> = Some(i64::MIN);
 
 #[test]
 fn each_partition_adds_its_rows(rt: HostRuntime) -> Result<(), Fail> {
     let view = Range::new(0, Kind::Int);
-    let low = two_rows(rt.alloc(), 0, CellRef::Int(9), CellRef::Missing)?;
-    let high = two_rows(rt.alloc(), 1, CellRef::Int(-2), CellRef::Int(5))?;
+    let low = two_rows(rt.alloc(), 0, Some(9), None)?;
+    let high = two_rows(rt.alloc(), 1, Some(-2), Some(5))?;
     let mut acc = view.zero(rt.alloc())?;
     add_part(rt.alloc(), &view, &mut acc, &low)?;
     add_part(rt.alloc(), &view, &mut acc, &high)?;
@@ -97,9 +114,9 @@ fn each_partition_adds_its_rows(rt: HostRuntime) -> Result<(), Fail> {
 fn a_table_is_summarised(rt: HostRuntime) -> Result<(), Fail> {
     let view = Range::new(0, Kind::Int);
     for (first, second, count, least, greatest, sum) in [
-        (CellRef::Missing, CellRef::Missing, 0, None, None, 0),
-        (CellRef::Int(4), CellRef::Missing, 1, Some(4), Some(4), 4),
-        (CellRef::Missing, CellRef::Int(4), 1, Some(4), Some(4), 4),
+        (None, None, 0, None, None, 0),
+        (Some(4), None, 1, Some(4), Some(4), 4),
+        (None, Some(4), 1, Some(4), Some(4), 4),
         (LEAST, LEAST, 2, Some(i64::MIN), Some(i64::MIN), -(1 << 64)),
     ] {
         let table = two_rows(rt.alloc(), 0, first, second)?;
