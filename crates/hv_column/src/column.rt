@@ -117,7 +117,7 @@ impl Column {
     }
 
     /// Adds a cell at the end. Room grows geometrically.
-    pub fn push(&mut self, alloc: Global, cell: CellRef<'_>) -> Mem<()>
+    pub fn push(&mut self, cell: CellRef<'_>) -> Mem<()>
         requires fits { is_of_kind self.old.kind (cell_lent cell) ≡ true }
         requires room { length self.old.cells < 2 ^ 26 }
         ensures ok { OnOk result (self.new ≡ record self.old { cells = self.old.cells ++ cell_lent cell.entry ∷ [] }) }
@@ -126,7 +126,7 @@ impl Column {
         match &mut self.store {
             Store::Ints(ints) => ints.push(int_in(cell)),
             Store::Dates(dates) => dates.push(date_in(cell)),
-            Store::Texts(texts) => texts.push(alloc, text_in(cell)),
+            Store::Texts(texts) => texts.push(text_in(cell)),
         }
     }
 

@@ -7,9 +7,9 @@ fn keeps_whole_numbers_in_order(rt: HostRuntime) -> Result<(), Memory> {
     let mut column = Column::new(rt.alloc(), Kind::Int)?;
     assert_eq!(rt; column.len(), 0);
     assert_eq!(rt; column.kind(), Kind::Int);
-    column.push(rt.alloc(), CellRef::Int(5))?;
-    column.push(rt.alloc(), CellRef::Missing)?;
-    column.push(rt.alloc(), CellRef::Int(i64::MIN))?;
+    column.push(CellRef::Int(5))?;
+    column.push(CellRef::Missing)?;
+    column.push(CellRef::Int(i64::MIN))?;
     assert_eq!(rt; column.len(), 3);
     assert_eq!(rt; column.cell(0), CellRef::Int(5));
     assert_eq!(rt; column.cell(1), CellRef::Missing);
@@ -21,9 +21,9 @@ fn keeps_whole_numbers_in_order(rt: HostRuntime) -> Result<(), Memory> {
 fn keeps_days_in_order(rt: HostRuntime) -> Result<(), Memory> {
     let mut column = Column::new(rt.alloc(), Kind::Date)?;
     assert_eq!(rt; column.kind(), Kind::Date);
-    column.push(rt.alloc(), CellRef::Date(-719162))?;
-    column.push(rt.alloc(), CellRef::Missing)?;
-    column.push(rt.alloc(), CellRef::Date(2932896))?;
+    column.push(CellRef::Date(-719162))?;
+    column.push(CellRef::Missing)?;
+    column.push(CellRef::Date(2932896))?;
     assert_eq!(rt; column.len(), 3);
     assert_eq!(rt; column.cell(0), CellRef::Date(-719162));
     assert_eq!(rt; column.cell(1), CellRef::Missing);
@@ -35,9 +35,9 @@ fn keeps_days_in_order(rt: HostRuntime) -> Result<(), Memory> {
 fn keeps_texts_in_order(rt: HostRuntime) -> Result<(), Memory> {
     let mut column = Column::new(rt.alloc(), Kind::Text)?;
     assert_eq!(rt; column.kind(), Kind::Text);
-    column.push(rt.alloc(), CellRef::Text(""))?;
-    column.push(rt.alloc(), CellRef::Missing)?;
-    column.push(rt.alloc(), CellRef::Text("ab"))?;
+    column.push(CellRef::Text(""))?;
+    column.push(CellRef::Missing)?;
+    column.push(CellRef::Text("ab"))?;
     assert_eq!(rt; column.len(), 3);
     assert_eq!(rt; column.cell(0), CellRef::Text(""));
     assert_eq!(rt; column.cell(1), CellRef::Missing);

@@ -57,11 +57,11 @@ impl Texts {
     }
 
     /// Adds a copy of a text at the end.
-    pub fn push(&mut self, alloc: Global, text: Option<&str>) -> Mem<()>
+    pub fn push(&mut self, text: Option<&str>) -> Mem<()>
         ensures ok { OnOk result (self.new ≡ self.old ++ option_map (λ t. t.now) text.entry ∷ []) }
         ensures err { OnErr result (self.new ≡ self.old) }
     {
-        let copy = copy_of(alloc, text)?;
+        let copy = copy_of(*self.values.allocator(), text)?;
         self.values.push(copy)?;
         Ok(())
     }

@@ -12,7 +12,6 @@ use crate::reader::read_next;
 use csv::{ByteRecord, Reader};
 use hv_column::Column;
 use hv_value::{CellRef, Kind, Mem, day_of, int_of};
-use std::alloc::Global;
 
 /// The whole number that a field writes.
 fn int_cell_of(field: &[u8]) -> CellRef<'static>
@@ -78,33 +77,27 @@ fn field_of(row: &ByteRecord, place: Option<usize>) -> Option<&[u8]>
 }
 
 /// Pushes a row's field into the column of that place.
-fn push_field(alloc: Global, column: &mut Column, place: Option<usize>, row: &ByteRecord) -> Mem<()>
+fn push_field(column: &mut Column, place: Option<usize>, row: &ByteRecord) -> Mem<()>
     requires { length column.old.cells < 2 ^ 26 }
     ensures { OnOk result (column.new ≡ with_field place (fields_of row.now) column.old) }
 {
-    column.push(alloc, cell_of(column.kind(), field_of(row, place)))
+    column.push(cell_of(column.kind(), field_of(row, place)))
 }
 
 /// Pushes a row's fields into the columns of their places.
-fn push_row(
-    alloc: Global,
-    cols: &mut [Column],
-    places: &[Option<usize>],
-    row: &ByteRecord,
-) -> Mem<()>
+fn push_row(cols: &mut [Column], places: &[Option<usize>], row: &ByteRecord) -> Mem<()>
     requires room { HaveRoom 1 cols.old }
     requires places { length places.now ≡ length cols.old }
     ensures { OnOk result (cols.new ≡ with_row places.now (fields_of row.now) cols.old) }
 {
     for j in 0..cols.len() {
-        push_field(alloc, &mut cols[j], places[j], row)?;
+        push_field(&mut cols[j], places[j], row)?;
     }
     Ok(())
 }
 
 /// Pushes all records that a reader has left into columns. Each is read into `row`, so none is copied but there.
 pub(crate) fn push_rows(
-    alloc: Global,
     cols: &mut [Column],
     places: &[Option<usize>],
     reader: &mut Reader<&[u8]>,
@@ -116,7 +109,7 @@ pub(crate) fn push_rows(
     ensures { OnOk result (cols.new ≡ with_rows places.now (records_left reader.old) cols.old) }
 {
     while read_next(reader, row)? {
-        push_row(alloc, cols, places, row)?;
+        push_row(cols, places, row)?;
     }
     Ok(())
 }

@@ -41,6 +41,6 @@ pub fn read_part(alloc: Global, bytes: &[u8], schema: &Schema) -> Mem<Vec<Column
         return Ok(cols);
     }
     let places = places_of(alloc, schema, &row)?;
-    push_rows(alloc, &mut cols, &places, &mut reader, &mut row)?;
+    push_rows(&mut cols, &places, &mut reader, &mut row)?;
     Ok(cols)
 }
