@@ -95,7 +95,7 @@ program=$work/repo/crates/parts/out/parts
 
 cat > "$work/measure.py" <<'PY'
 import csv, datetime, io, os, random, resource, shutil, subprocess, sys
-work, program = sys.argv[1:3]
+work, program, rust = sys.argv[1:4]
 SIZE = 60_000_000
 random.seed(7)
 
@@ -166,8 +166,14 @@ for name, kinds in [("numbers, dates, texts", "iiiiiiiiddtt"), ("numbers and dat
     if plain_out != want:
         sys.exit(f"csv.sh: Python found {plain_out!r}, wanted {want!r}")
     speed, memory = size / 1e6 / spent, peak / size
+    beside = ""
+    if rust:
+        rusty, _, rust_out = best([rust, kinds], path)
+        if rust_out != want:
+            sys.exit(f"csv.sh: the Rust program found {rust_out!r}, wanted {want!r}")
+        beside = f" Rust's csv {rusty:.2f} s;"
     print(f"{name}: {size / 1e6:.0f} MB, {rows} rows: {spent:.2f} s, {speed:.0f} MB per second, peak {memory:.2f} times the bytes;"
-          f" wc -l {counted:.2f} s; Python {plain:.2f} s, {plain / spent:.1f} times as long")
+          f" wc -l {counted:.2f} s;{beside} Python {plain:.2f} s, {plain / spent:.1f} times as long")
     fast = speed >= 100
     print("  target of 100 MB per second:", "met" if fast else "MISSED")
     missed += not fast
@@ -177,5 +183,62 @@ for name, kinds in [("numbers, dates, texts", "iiiiiiiiddtt"), ("numbers and dat
         missed += not small
 sys.exit(1 if missed else 0)
 PY
-[ -d /usr/share/cargo/registry/csv-1 ] || ls -d /usr/share/cargo/registry/csv-* > /dev/null 2>&1 || echo "librust-csv-dev isn't here, so no Rust program beside it"
-python3 "$work/measure.py" "$work" "$program"
+# The same with Rust's own csv crate, from Debian's librust-csv-dev.
+make_rust() {
+    mkdir -p "$work/rust/src" "$work/rust/.cargo" && cd "$work/rust" || return 1
+    printf '[source.crates-io]\nreplace-with = "debian"\n[source.debian]\ndirectory = "/usr/share/cargo/registry"\n' > .cargo/config.toml
+    printf '[package]\nname = "parts"\nversion = "0.1.0"\nedition = "2021"\n[dependencies]\ncsv = "1"\n' > Cargo.toml
+    cat > src/main.rs <<'RS'
+use std::io::Read;
+
+fn day(f: &[u8]) -> Option<i32> {
+    if f.len() != 10 || f[4] != b'-' || f[7] != b'-' {
+        return None;
+    }
+    let n = |s: &[u8]| std::str::from_utf8(s).ok()?.parse::<i32>().ok();
+    let (y, m, d) = (n(&f[..4])?, n(&f[5..7])?, n(&f[8..])?);
+    let y = if m <= 2 { y - 1 } else { y };
+    let era = y.div_euclid(400);
+    let yoe = y.rem_euclid(400);
+    let doy = (153 * ((m + 9) % 12) + 2) / 5 + d - 1;
+    Some(era * 146097 + yoe * 365 + yoe / 4 - yoe / 100 + doy - 719468)
+}
+
+enum Col { Ints(Vec<Option<i64>>), Days(Vec<Option<i32>>), Texts(Vec<Option<String>>) }
+
+fn main() {
+    let kinds = std::env::args().nth(1).unwrap();
+    let mut bytes = Vec::new();
+    std::io::stdin().read_to_end(&mut bytes).unwrap();
+    let mut cols: Vec<Col> = kinds.chars().map(|k| match k {
+        'i' => Col::Ints(Vec::new()),
+        'd' => Col::Days(Vec::new()),
+        _ => Col::Texts(Vec::new()),
+    }).collect();
+    let mut reader = csv::ReaderBuilder::new().flexible(true).from_reader(bytes.as_slice());
+    let mut row = csv::ByteRecord::new();
+    while reader.read_byte_record(&mut row).unwrap() {
+        for (j, col) in cols.iter_mut().enumerate() {
+            let text = row.get(j).and_then(|f| std::str::from_utf8(f).ok());
+            match col {
+                Col::Ints(c) => c.push(text.and_then(|t| t.parse().ok())),
+                Col::Days(c) => c.push(row.get(j).and_then(day)),
+                Col::Texts(c) => c.push(text.map(String::from)),
+            }
+        }
+    }
+    if let Col::Ints(first) = &cols[0] {
+        println!("{} {}", first.len(), first.iter().flatten().sum::<i64>());
+    }
+}
+RS
+    cargo build --release --offline > "$work/cargo.log" 2>&1
+}
+
+rust=
+if ls -d /usr/share/cargo/registry/csv-1* > /dev/null 2>&1 && command -v cargo > /dev/null; then
+    if (make_rust); then rust=$work/rust/target/release/parts; else echo "the Rust program can't be built here"; tail -n 3 "$work/cargo.log"; fi
+else
+    echo "librust-csv-dev isn't here, so no Rust program beside it"
+fi
+python3 "$work/measure.py" "$work" "$program" "$rust"
