@@ -1,8 +1,8 @@
 #!/usr/bin/env python3
 """Measures `hill play` over many messages and over large tables, beside the plain Python of plain.py.
 
-Each script is played three times by each, the outputs are compared byte for byte, and the best run counts.
-It is judged by the processor time of the run (user and system), since other work may share the machine.
+Both play each script five times, in rounds over all scripts, so that what else the machine does hits all alike.
+The outputs are compared byte for byte. The best run counts, by its processor time (user and system).
 Targets: on the tables hill takes a third of Python's time or less; and a message costs at most a fifth
 more in a script of 60,000 than in one of 10,000.
 
@@ -20,7 +20,7 @@ import time
 TOP = os.path.dirname(os.path.dirname(os.path.realpath(__file__)))
 HILL = [f"{TOP}/crates/hill/out/hill", "play"]
 PLAIN = [sys.executable, f"{TOP}/bench/plain.py"]
-RUNS = 3
+ROUNDS = 5
 LENGTHS = (10_000, 20_000, 60_000)
 TABLES = 60
 PART_BYTES = 900_000
@@ -80,28 +80,49 @@ def play(words, script, output):
     return passed, used.ru_utime + used.ru_stime
 
 
-def best(words, script, output):
-    clock, used = zip(*(play(words, script, output) for _ in range(RUNS)))
-    return min(clock), min(used)
+def bytes_of(path):
+    with open(path, "rb") as it:
+        return it.read()
 
 
-def measure(name, lines, folder):
-    """Measures a script, prints a line, and returns hill's processor seconds and how many times that Python takes."""
-    script, ours, theirs = (f"{folder}/{it}" for it in ("script", "ours", "theirs"))
-    with open(script, "w") as it:
-        it.writelines(lines)
-    megabytes = os.path.getsize(script) / 1e6
-    clock, used = best(HILL, script, ours)
-    plain_clock, plain_used = best(PLAIN, script, theirs)
-    with open(ours, "rb") as one, open(theirs, "rb") as other:
-        if one.read() != other.read():
-            sys.exit(f"{name}: hill and Python give other outputs")
-    print(
-        f"{name:14} {megabytes:7.2f} {clock:8.3f} {used:8.3f} {megabytes / used:8.1f} {used / len(lines) * 1e6:9.2f}"
-        f" {plain_clock:8.3f} {plain_used:8.3f} {plain_used / used:6.2f}",
-        flush=True,
-    )
-    return used, plain_used / used
+class Case:
+    """A script, with the seconds of each run over it, by the clock and of processors."""
+
+    def __init__(self, folder, name, lines):
+        self.name, self.script = name, f"{folder}/{name}"
+        self.hill, self.plain = [], []
+        self.lines = len(lines)
+        with open(self.script, "w") as it:
+            it.writelines(lines)
+        self.megabytes = os.path.getsize(self.script) / 1e6
+
+    def play(self):
+        ours, theirs = f"{self.script}.hill", f"{self.script}.plain"
+        self.hill.append(play(HILL, self.script, ours))
+        self.plain.append(play(PLAIN, self.script, theirs))
+        if bytes_of(ours) != bytes_of(theirs):
+            sys.exit(f"{self.name}: hill and Python give other outputs")
+
+    def cost(self):
+        """Microseconds of processors for a line."""
+        return best(self.hill)[1] / self.lines * 1e6
+
+    def ratio(self):
+        """How many times hill's processor time Python takes."""
+        return best(self.plain)[1] / best(self.hill)[1]
+
+    def show(self):
+        clock, used = best(self.hill)
+        plain_clock, plain_used = best(self.plain)
+        print(
+            f"{self.name:14} {self.megabytes:7.2f} {clock:8.3f} {used:9.3f} {self.megabytes / used:7.1f}"
+            f" {self.cost():8.2f} {plain_clock:9.3f} {plain_used:9.3f} {self.ratio():6.2f}"
+        )
+
+
+def best(runs):
+    """The least seconds by the clock, and the least of processors."""
+    return tuple(min(it) for it in zip(*runs))
 
 
 def judge(what, found, holds):
@@ -109,21 +130,33 @@ def judge(what, found, holds):
     return holds
 
 
+def judge_growth(name, cases):
+    growth = cases[-1].cost() / cases[0].cost()
+    return judge(f"{name}: a message of the longest script to one of the shortest, at most 1.2", growth, growth <= 1.2)
+
+
 def main():
     if not os.access(HILL[0], os.X_OK):
         sys.exit("hill isn't built: run rt ci first")
-    print("                        ------------- hill -------------    ------ Python ------")
-    print("script              MB    clock  user+sys   MB/s  us/line    clock user+sys  ratio")
-    growth = {}
     with tempfile.TemporaryDirectory(prefix="hill-bench-") as folder:
-        for name, lines_of in (("views", views), ("loads", loads)):
-            costs = [measure(f"{name} {n:,}", lines_of(n), folder)[0] / n for n in LENGTHS]
-            growth[name] = costs[-1] / costs[0]
-        _, ratio = measure(f"tables {TABLES}", tables(), folder)
+        of_views = [Case(folder, f"views {n:,}", views(n)) for n in LENGTHS]
+        of_loads = [Case(folder, f"loads {n:,}", loads(n)) for n in LENGTHS]
+        of_tables = Case(folder, f"tables {TABLES}", tables())
+        cases = [*of_views, *of_loads, of_tables]
+        for _ in range(ROUNDS):
+            for case in cases:
+                case.play()
+    print("                       ------------- hill --------------    ------- Python -------")
+    print("script              MB    clock  user+sys    MB/s  us/line     clock  user+sys  ratio")
+    for case in cases:
+        case.show()
     print("The outputs are the same, byte for byte.")
-    held = [judge("tables: times as fast as Python, at least 3", ratio, ratio >= 3)]
-    for name, more in growth.items():
-        held.append(judge(f"{name}: cost of a message in the longest script, at most 1.2 times the shortest's", more, more <= 1.2))
+    ratio = of_tables.ratio()
+    held = [
+        judge("tables: times as fast as Python, at least 3", ratio, ratio >= 3),
+        judge_growth("views", of_views),
+        judge_growth("loads", of_loads),
+    ]
     return 0 if all(held) else 1
 
 

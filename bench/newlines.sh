@@ -10,10 +10,11 @@ trap 'rm -rf "$folder"' EXIT
 TIMEFORMAT='%3U %3S %3R'
 failed=0
 
-# The processor time and the time by the clock of a command, in milliseconds, the best of three runs
-# each; its output and status are left in the folder.
+# The processor time and the time by the clock of a command over the script, in milliseconds, each the best
+# of three runs; its output and status are left in the folder.
 measure() {
     local i
+    : > "$folder/times"
     for i in 1 2 3; do
         { time "$@" < "$folder/script" > "$folder/output" 2> /dev/null; echo $? > "$folder/status"; } 2>> "$folder/times"
     done
@@ -21,15 +22,14 @@ measure() {
         NR == 1 || used < least { least = used }
         NR == 1 || clock < soonest { soonest = clock }
         END { printf "%d %d\n", least, soonest }' "$folder/times"
-    rm "$folder/times"
 }
 
 # Plays so many newlines, and compares the status, the output and the time.
 try() {
     local bytes=$1 wanted=$2 status limit word=met used clock wc_used wc_clock
     head -c "$bytes" /dev/zero | tr '\0' '\n' > "$folder/script"
-    read -r wc_used wc_clock < <(measure wc -l)
-    read -r used clock < <(measure "$hill" play)
+    read -r wc_used wc_clock <<< "$(measure wc -l)"
+    read -r used clock <<< "$(measure "$hill" play)"
     status=$(cat "$folder/status")
     limit=$((3 * wc_used + 1000))
     if [ "$status" != "$wanted" ] || [ -s "$folder/output" ]; then

@@ -1,8 +1,8 @@
 #!/usr/bin/env python3
 """Plays a script as `hill play` does, in plain Python: what messages.py measures hill against.
 
-It knows loads of inline tables, ranges, and the answers to texts that are neither. Of a message with a
-number that isn't a whole one of 64 bits, or of want of memory, it knows nothing.
+It knows loads of inline tables of whole numbers, ranges, and the answers to texts that are neither. Of a
+message with a number that isn't a whole one of 64 bits, or of want of memory, it knows nothing.
 """
 
 import csv
