@@ -1,8 +1,10 @@
 #!/usr/bin/env python3
 """Measures `hill play` over many messages and over large tables, beside the plain Python of plain.py.
 
-Both play each script five times, in rounds over all scripts, so that what else the machine does hits all alike.
-The outputs are compared byte for byte. The best run counts, by its processor time (user and system).
+Both play each script five times, in rounds over all scripts, and the outputs are compared byte for byte. The best
+run counts, by its processor time (user and system). On a shared machine the same run may take twice as long a
+few seconds later, so whether a message costs more in a longer script is told from pairs of runs: the shortest
+script and right after it the longest, and of all pairs the median.
 Targets: on the tables hill takes a third of Python's time or less; and a message costs at most a fifth
 more in a script of 60,000 than in one of 10,000.
 
@@ -12,6 +14,7 @@ usage: bench/messages.py    (with hill proved and built: rt ci)
 import json
 import os
 import random
+import statistics
 import subprocess
 import sys
 import tempfile
@@ -21,6 +24,7 @@ TOP = os.path.dirname(os.path.dirname(os.path.realpath(__file__)))
 HILL = [f"{TOP}/crates/hill/out/hill", "play"]
 PLAIN = [sys.executable, f"{TOP}/bench/plain.py"]
 ROUNDS = 5
+PAIRS = 21
 LENGTHS = (10_000, 20_000, 60_000)
 TABLES = 60
 PART_BYTES = 900_000
@@ -103,9 +107,9 @@ class Case:
         if bytes_of(ours) != bytes_of(theirs):
             sys.exit(f"{self.name}: hill and Python give other outputs")
 
-    def cost(self):
-        """Microseconds of processors for a line."""
-        return best(self.hill)[1] / self.lines * 1e6
+    def play_hill(self):
+        """Microseconds of processors that hill takes for a line."""
+        return play(HILL, self.script, f"{self.script}.hill")[1] / self.lines * 1e6
 
     def ratio(self):
         """How many times hill's processor time Python takes."""
@@ -116,7 +120,7 @@ class Case:
         plain_clock, plain_used = best(self.plain)
         print(
             f"{self.name:14} {self.megabytes:7.2f} {clock:8.3f} {used:9.3f} {self.megabytes / used:7.1f}"
-            f" {self.cost():8.2f} {plain_clock:9.3f} {plain_used:9.3f} {self.ratio():6.2f}"
+            f" {used / self.lines * 1e6:8.2f} {plain_clock:9.3f} {plain_used:9.3f} {self.ratio():6.2f}"
         )
 
 
@@ -130,9 +134,15 @@ def judge(what, found, holds):
     return holds
 
 
-def judge_growth(name, cases):
-    growth = cases[-1].cost() / cases[0].cost()
-    return judge(f"{name}: a message of the longest script to one of the shortest, at most 1.2", growth, growth <= 1.2)
+def growth(cases):
+    """How many times the cost of a message in the shortest script one in the longest has."""
+    shortest, *_, longest = cases
+    pairs = ((shortest.play_hill(), longest.play_hill()) for _ in range(PAIRS))
+    return statistics.median(there / here for here, there in pairs)
+
+
+def judge_growth(name, found):
+    return judge(f"{name}: a message of the longest script to one of the shortest, at most 1.2", found, found <= 1.2)
 
 
 def main():
@@ -146,6 +156,7 @@ def main():
         for _ in range(ROUNDS):
             for case in cases:
                 case.play()
+        growths = {"views": growth(of_views), "loads": growth(of_loads)}
     print("                       ------------- hill --------------    ------- Python -------")
     print("script              MB    clock  user+sys    MB/s  us/line     clock  user+sys  ratio")
     for case in cases:
@@ -154,8 +165,7 @@ def main():
     ratio = of_tables.ratio()
     held = [
         judge("tables: times as fast as Python, at least 3", ratio, ratio >= 3),
-        judge_growth("views", of_views),
-        judge_growth("loads", of_loads),
+        *(judge_growth(name, found) for name, found in growths.items()),
     ]
     return 0 if all(held) else 1
 
