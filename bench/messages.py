@@ -44,12 +44,12 @@ def view(id, of):
 
 
 def views(count):
-    """One small table and then views of it: 64 stay open until the end, the others are answered unread."""
+    """One small table and then views of it: 64 stay open until the end, the others are refused as full."""
     return [load(1, SMALL), *(view(id, 0) for id in range(2, count + 1))]
 
 
 def loads(count):
-    """Loads of a small table: 4,096 make objects, the others are answered unread."""
+    """Loads of a small table: 4,096 make objects, the others are refused as full."""
     return [load(id, SMALL) for id in range(1, count + 1)]
 
 

@@ -1,7 +1,8 @@
 #!/usr/bin/env python3
 """Plays a script as `hill play` does, in plain Python: what messages.py measures hill against.
 
-It knows loads of inline tables of whole numbers, ranges, and the answers to texts that are neither. Of a
+It knows loads of inline tables of whole numbers and ranges in session 0, and that a message beyond 4,096 objects or
+64 open requests is refused as `full`. Of every other refusal, of other messages and sessions, of raw texts, of a
 message with a number that isn't a whole one of 64 bits, or of want of memory, it knows nothing.
 """
 
@@ -15,17 +16,20 @@ MAX_ID = 2**53 - 1
 MAX_MESSAGE_BYTES = 2**20
 MAX_OBJECTS = 4096
 MAX_OPEN = 64
-UNREAD = {"error": "malformed", "id": None, "why": "unread"}
 INT = re.compile(r"-?[0-9]+").fullmatch
 
 
-class Unread(Exception):
-    """The text is no message, or fails a check."""
+class Unknown(Exception):
+    """A text whose answer isn't known here."""
 
 
 def check(holds):
     if not holds:
-        raise Unread
+        raise Unknown
+
+
+def full(id):
+    return {"error": "malformed", "id": id, "why": "full"}
 
 
 def compact(value):
@@ -58,7 +62,7 @@ def table_of(message):
         inline = message["table"]["inline"]
         schema, parts = inline["schema"], inline["parts"]
     except (KeyError, TypeError):
-        raise Unread
+        raise Unknown
     check(isinstance(schema, list) and isinstance(parts, list))
     check(all(is_column(column) for column in schema) and all(isinstance(part, str) for part in parts))
     names = [name for name, _ in schema]
@@ -94,13 +98,17 @@ class Session:
         id, op = message.get("id"), message.get("op")
         check(is_whole(id, MAX_ID) and id not in self.open)
         if op == "load":
-            check(len(self.objects) < MAX_OBJECTS)
-            self.objects.append(table_of(message))
+            table = table_of(message)
+            if len(self.objects) == MAX_OBJECTS:
+                return full(id)
+            self.objects.append(table)
             return {"id": id, "made": len(self.objects) - 1}
-        check(op == "view" and len(self.open) < MAX_OPEN)
+        check(op == "view")
         of, view = message.get("of"), message.get("view")
         check(is_whole(of, len(self.objects) - 1) and isinstance(view, dict))
         check(view.get("kind") == "range" and view.get("col") in self.objects[of][0])
+        if len(self.open) == MAX_OPEN:
+            return full(id)
         self.open[id] = of, view["col"]
         return None
 
@@ -122,12 +130,9 @@ def do_line(session, line):
     message = value.get("msg")
     if not is_whole(value.get("s"), 0) or not isinstance(message, dict):
         return {"bad": "line"}
-    try:
-        # a message's compact text is never longer than the line that holds it
-        check(len(line) <= MAX_MESSAGE_BYTES or len(compact(message).encode()) <= MAX_MESSAGE_BYTES)
-        reply = session.hear(message)
-    except Unread:
-        reply = UNREAD
+    # a message's compact text is never longer than the line that holds it
+    check(len(line) <= MAX_MESSAGE_BYTES or len(compact(message).encode()) <= MAX_MESSAGE_BYTES)
+    reply = session.hear(message)
     return None if reply is None else {"out": reply, "s": 0}
 
 

@@ -17,14 +17,14 @@ trap 'rm -rf "$folder"' EXIT
 nomem() { echo "{\"line\":$1,\"out\":{\"error\":\"nomem\",\"id\":$2},\"s\":0}"; }
 made=$(sed -n 1p "$top/examples/range.out.jsonl")
 range=$(sed -n 2p "$top/examples/range.out.jsonl")
-unread='{"line":2,"out":{"error":"malformed","id":null,"why":"unread"},"s":0}'
+no_object='{"line":2,"out":{"error":"malformed","id":2,"why":"object"},"s":0}'
 
 # The right outputs where one allocation at most is refused, and what is told of each.
 right=() told=()
 add() { told+=("$1"); right+=("$(printf '%s\n' "${@:2}"; echo .)"); }
 add "whole" "$made" "$range"
-add "nomem: the load, without its id; the view is unread" "$(nomem 1 null)" "$unread"
-add "nomem: the load, with its id; the view is unread" "$(nomem 1 1)" "$unread"
+add "nomem: the load, without its id; the view's object isn't there" "$(nomem 1 null)" "$no_object"
+add "nomem: the load, with its id; the view's object isn't there" "$(nomem 1 1)" "$no_object"
 add "nomem: the view as a message, without its id" "$made" "$(nomem 2 null)"
 add "nomem: the view as a message, with its id" "$made" "$(nomem 2 2)"
 add "nomem: the view's last word" "$made" "$(nomem 3 2)"

@@ -1,7 +1,7 @@
 -- Runs that are cut off after some of their output lines.
 use Rattle.std.proofs.Common.{◌≡◌, ◌∙◌, refl, ap, ℕ, List, [], ◌∷◌, ◌++◌, Option, Some, None}
 use Rattle.std.specs.Prelude.{option_to_list}
-use Rattle.hv_talk.specs.declared.entry.Entry.{Entry}
+use Rattle.hv_play.specs.declared.entry.Entry.{Entry}
 use Rattle.hv_play.specs.Run.{Setting, State, Duty, script, Event, comes, written, Does, Runs, stays, does, start, entries_of}
 use Rattle.hv_play.specs.Script.{script_lines}
 use Rattle.hv_play.specs.Laws.{ShowsLines}

@@ -1,10 +1,9 @@
-pub mod AskedLemmas
 pub mod CutLemmas
 pub mod LineLemmas
-pub mod OnlyRun
-pub mod PartLemmas
+pub mod OutputLemmas
 pub mod RowSteps
 pub mod RunLemmas
+pub mod SpokenLemmas
 pub mod StepLemmas
 pub mod TalkLemmas
 pub mod TextLemmas

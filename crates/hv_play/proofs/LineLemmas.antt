@@ -7,8 +7,7 @@ use Rattle.std.specs.Str.{is_utf8}
 use Rattle.std.proofs.lemmas.Str.{is_utf8-from_IsUtf8, IsUtf8-from_is_utf8}
 use Rattle.serde_json.specs.Data.{Data}
 use Rattle.serde_json.specs.Read.{read}
-use Rattle.hv_talk.specs.declared.entry.BadLine.TheVariants as bad_line
-use Rattle.hv_play.specs.Script.{Line, empty, bad, lines_after, last_line, script_lines, line_of, line_of_value, line_of_message, message_in_line, value_of_line, is_object}
+use Rattle.hv_play.specs.Script.{empty, bad, hears, lines_after, last_line, script_lines, line_of, line_of_value, line_of_form, why_bad, session_in, text_in_line, value_of_line}
 
 -- the first byte ends the line, or it joins it
 ends_line : (b : Bool) (x y : List (List ℕ)) → b ≡ true → (if b then x else y) ≡ x
@@ -87,17 +86,18 @@ pub line_of-value : (line : List ℕ) → (length line == 0) ≡ false → line_
 line_of-value [] e = cc
 line_of-value (b ∷ line) e = refl
 
-chosen : (b : Bool) (x y : Line) → b ≡ true → (if b then x else y) ≡ x
-chosen b x y e = subst (λ t. (if t then x else y) ≡ x) (sym e) refl
+-- a value without a session, or with nothing for it to hear, is a bad line
+pub line_of_value-no_session : (value : Data) → session_in value ≡ None → line_of_value (Some value) ≡ bad (why_bad value)
+line_of_value-no_session value none = ap (λ s. line_of_form (why_bad value) s (text_in_line value)) none
 
-not_chosen : (b : Bool) (x y : Line) → b ≡ false → (if b then x else y) ≡ y
-not_chosen b x y e = subst (λ t. (if t then x else y) ≡ y) (sym e) refl
+pub line_of_value-no_text : (value : Data) (s : ℕ) → session_in value ≡ Some s → text_in_line value ≡ None → line_of_value (Some value) ≡ bad (why_bad value)
+line_of_value-no_text value s is none =
+    ap (λ o. line_of_form (why_bad value) o (text_in_line value)) is ∙ ap (line_of_form (why_bad value) (Some s)) none
 
-pub line_of_value-object : (value : Data) → is_object value ≡ true → line_of_value (Some value) ≡ line_of_message (message_in_line value)
-line_of_value-object value e = chosen (is_object value) (line_of_message (message_in_line value)) (bad bad_line.Json) e
-
-pub line_of_value-other : (value : Data) → is_object value ≡ false → line_of_value (Some value) ≡ bad bad_line.Json
-line_of_value-other value e = not_chosen (is_object value) (line_of_message (message_in_line value)) (bad bad_line.Json) e
+-- one with both asks that the session hears the text
+pub line_of_value-heard : (value : Data) (s : ℕ) (text : List ℕ) → session_in value ≡ Some s → text_in_line value ≡ Some text → line_of_value (Some value) ≡ hears s text
+line_of_value-heard value s text is says =
+    ap (λ o. line_of_form (why_bad value) o (text_in_line value)) is ∙ ap (line_of_form (why_bad value) (Some s)) says
 
 -- the value of a line's bytes is that of their text
 there : (b : Bool) (x : Option Data) → b ≡ true → (if b then x else None) ≡ x

@@ -1,8 +1,8 @@
 -- Runs of duties joined, and the output lines among their events.
 use Rattle.std.proofs.Common.{◌≡◌, ◌∙◌, sym, refl, ap, subst, List, [], ◌∷◌, ◌++◌, append_assoc, append-nil, Option}
 use Rattle.std.specs.Prelude.{option_to_list}
-use Rattle.hv_talk.specs.declared.entry.Entry.{Entry}
-use Rattle.hv_talk.specs.Texts.{entries_text, entry_text}
+use Rattle.hv_play.specs.declared.entry.Entry.{Entry}
+use Rattle.hv_play.specs.Texts.{entries_text, entry_text}
 use Rattle.hv_play.specs.Run.{Setting, State, Duty, Event, comes, written, Does, Runs, stays, does, entries_of}
 
 -- a run, and then a run from where it stopped

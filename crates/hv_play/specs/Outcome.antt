@@ -5,7 +5,7 @@ use Rattle.std.specs.Io.KnownBytes.{Appends, Consumes, IsAtEnd}
 use Rattle.hv_outer.specs.declared.io_err.IoErr.{IoErr}
 use Rattle.hv_outer.specs.declared.io_err.IoErr.TheVariants.{Failed, Memory}
 use Rattle.hv_play.specs.declared.top.TheConstants.{DONE, WRITE_FAULT, NO_MEMORY, MAX_SCRIPT_BYTES}
-use Rattle.hv_play.specs.Run.{Ending, IsTrace, one_session}
+use Rattle.hv_play.specs.Run.{Ending, IsTrace, sixteen_sessions}
 
 -- whether the words are just `play`
 abbrev pub is_play : List (String Global) → Bool
@@ -27,4 +27,4 @@ pub record Traced (ending : Ending) (left left' taken taken' : Option (List ℕ)
   pub ended : IsAtEnd left'
   pub short : length script ≤ MAX_SCRIPT_BYTES
   pub written : Appends taken taken' output
-  pub right : IsTrace one_session ending script output
+  pub right : IsTrace sixteen_sessions ending script output

@@ -1,20 +1,24 @@
 -- Which output is right for a script: a run of duties. A duty is something that is still to be done; one table (`Does`)
 -- says for the first duty what it shows, which state it leaves, and which duties come in its place. This project's own rule.
-use Rattle.std.specs.Prelude.{◌≡◌, ℕ, ◌+◌, List, [], ◌∷◌, ◌++◌, length, map, get_or, slice_set, replicate, Bool, nat_lt, if◌then◌else◌, Option, Some, None, option_to_list, find, ◌==◌}
+use Rattle.std.specs.Prelude.{◌≡◌, ℕ, ◌+◌, List, [], ◌∷◌, ◌++◌, length, map, get_or, slice_set, replicate, Bool, nat_lt, if◌then◌else◌, Option, Some, None, option_to_list}
 use Rattle.std.specs.List.{list_any}
-use Rattle.hv_talk.specs.declared.entry.BadLine.{BadLine}
-use Rattle.hv_talk.specs.declared.entry.Entry.{Entry}
-use Rattle.hv_talk.specs.declared.entry.What.TheVariants as what
-use Rattle.hv_talk.specs.declared.message.OpenRequest.{OpenRequest}
-use Rattle.hv_talk.specs.declared.reply.Reply.{Reply}
-use Rattle.hv_talk.specs.Inline.{below}
-use Rattle.hv_talk.specs.Talk.{Talk, Due, new_talk, Hears, due_reply, after_due, Answers, closed}
-use Rattle.hv_talk.specs.Texts.{entries_text}
+use Rattle.hv_lineage.specs.Flat.{Told}
+use Rattle.hv_member.specs.Sets.{numbers}
+use Rattle.hv_reply.specs.declared.reply.Reply.{Reply}
+use Rattle.hv_session.specs.declared.request.OpenRequest.{OpenRequest}
+use Rattle.hv_session.specs.Talk.{Talk, Due, Manner, new_talk, Hears, due_reply, after_due, request_with, Closes}
+use Rattle.hv_play.specs.declared.entry.BadLine.{BadLine}
+use Rattle.hv_play.specs.declared.entry.Entry.{Entry}
+use Rattle.hv_play.specs.declared.entry.What.TheVariants as what
+use Rattle.hv_play.specs.declared.lines.TheConstants.{SESSIONS}
 use Rattle.hv_play.specs.Script.{Line, empty, bad, hears, line_of, script_lines}
+use Rattle.hv_play.specs.Texts.{entries_text}
 
--- what doesn't change during a run: how many sessions there are, numbered from 0
+-- what doesn't change during a run: how many sessions there are, numbered from 0, and the tables of their catalog with
+-- what is told of their contents
 pub record Setting : Type 0 where
   pub sessions : ℕ
+  pub manner : Manner
 
 -- the talks of the sessions, by number
 pub record State : Type 0 where
@@ -80,7 +84,7 @@ is_anything_open state = list_any is_waiting state.talks
 
 -- a round of the drain: each session in order ticks
 abbrev pub round : Setting → ℕ → List Duty
-round g k = map (ticking k) (below g.sessions)
+round g k = map (ticking k) (numbers g.sessions)
 
 -- while any request is open a round is due, and the drain again
 abbrev pub drain_duties : Setting → ℕ → State → List Duty
@@ -95,22 +99,18 @@ pub record Did (event : Option Event) (next : State) (more : List Duty) (event' 
   pub brings : more' ≡ more
 
 -- a session says the first answer that it owes, and goes on while it owes one
-abbrev pub Says : State → ℕ → ℕ → List Due → Option Event → State → List Duty → Type 0
-Says state k s [] event next more = Did None state [] event next more
-Says state k s (due ∷ later) event next more =
+abbrev pub SaysOwed : State → ℕ → ℕ → List Due → Option Event → State → List Duty → Type 0
+SaysOwed state k s [] event next more = Did None state [] event next more
+SaysOwed state k s (due ∷ later) event next more =
     let talk = talk_of state s in
     Did (Some (written (out k s (due_reply talk due)))) (with_talk state s (after_due talk due)) (saying k s ∷ []) event next more
 
--- an open request gets its last word, while nothing is owed; an id that none has is passed over
-abbrev pub Treats : State → ℕ → ℕ → Option OpenRequest → Option Event → State → List Duty → Type 0
-Treats state k s None event next more = Did None state [] event next more
-Treats state k s (Some request) event next more =
-    let talk = talk_of state s in
-    (reply : Reply) × (talk.due ≡ []) × Answers talk.objects request reply
-    × Did (Some (written (out k s reply))) (with_talk state s (record talk { requests = closed request.id talk.requests })) [] event next more
-
-abbrev pub request_with : ℕ → Talk → Option OpenRequest
-request_with id talk = find (λ request. request.id == id) talk.requests
+-- an open request gets its last word; an id that none has is passed over
+abbrev pub Treats : Told → State → ℕ → ℕ → Option OpenRequest → Option Event → State → List Duty → Type 0
+Treats told state k s None event next more = Did None state [] event next more
+Treats told state k s (Some request) event next more =
+    (reply : Reply) × (talk : Talk) × Closes told (talk_of state s) request reply talk
+    × Did (Some (written (out k s reply))) (with_talk state s talk) [] event next more
 
 -- what the first duty shows, which state it leaves, and which duties come in its place
 abbrev pub Does : Setting → State → Duty → Option Event → State → List Duty → Type 0
@@ -119,10 +119,10 @@ Does g state (script k (line ∷ lines)) event next more = Did None state (dutie
 Does g state (drain k) event next more = Did None state (drain_duties g k state) event next more
 Does g state (refusing k why) event next more = Did (Some (written (bad_entry k why))) state [] event next more
 Does g state (hearing k s text) event next more =
-    (talk : Talk) × Hears (talk_of state s) text talk × Did (Some (comes s text)) (with_talk state s talk) (saying k s ∷ []) event next more
-Does g state (saying k s) event next more = Says state k s (talk_of state s).due event next more
+    (talk : Talk) × Hears g.manner.tables (talk_of state s) text talk × Did (Some (comes s text)) (with_talk state s talk) (saying k s ∷ []) event next more
+Does g state (saying k s) event next more = SaysOwed state k s (talk_of state s).due event next more
 Does g state (ticking k s) event next more = Did None state (treatings k s (talk_of state s).requests) event next more
-Does g state (treating k s id) event next more = Treats state k s (request_with id (talk_of state s)) event next more
+Does g state (treating k s id) event next more = Treats g.manner.told state k s (request_with id (talk_of state s)) event next more
 
 -- ---- runs
 
@@ -160,6 +160,10 @@ pub record IsTrace (g : Setting) (ending : Ending) (script_bytes output : List �
   pub runs : Runs g (start g) (script 1 (script_lines script_bytes) ∷ []) events last left
   pub is_output : IsOutput ending (entries_of events) left output
 
--- the one session of a script, with number 0
-abbrev pub one_session : Setting
-one_session = record { sessions = 1 }
+-- there is no named table, and nothing is told of any
+abbrev pub no_tables : Manner
+no_tables = record { tables = []; told = λ table part. None }
+
+-- the sessions of a script stand open from the start
+abbrev pub sixteen_sessions : Setting
+sixteen_sessions = record { sessions = SESSIONS; manner = no_tables }

@@ -2,11 +2,17 @@
 //! is defined in specs/Run.antt and specs/Laws.antt.
 
 ghost use Rattle.std.specs.Prelude.{ℕ, List, ◌++◌};
-ghost use Rattle.hv_talk.specs.declared.entry.Entry.{Entry};
+ghost use Rattle.hv_play.specs.declared.entry.Entry.{Entry};
 ghost use Rattle.hv_play.specs.Run.{Setting};
-ghost use Rattle.hv_play.specs.Laws.{ShowsLines};
+ghost use Rattle.hv_play.specs.Laws.{ShowsLines, LeadsTalks, HasRightTalks};
 
 /// An output may be cut after any of its lines: the lines up to there are those of a run too.
 pub fn outputs_can_be_cut()
     ensures cut { (g : Setting) (script : List ℕ) (front rest : List Entry) → ShowsLines g script (front ++ rest) → ShowsLines g script front }
+{}
+
+/// Each session's talk is right: what it heard and what it said lead it from what it was to what it is.
+pub fn talks_are_right()
+    ensures led { LeadsTalks }
+    ensures right { HasRightTalks }
 {}

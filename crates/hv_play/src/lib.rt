@@ -3,13 +3,12 @@
 //! `play` is the top call. Which output is right is `IsTrace` of specs/Run.antt.
 #![tactic(auto)]
 
+mod entry;
 mod fields;
 mod floats;
 pub mod laws;
 mod lines;
-mod messages;
 mod output;
-mod ranges;
 mod run;
 mod session;
 #[cfg(test)]
@@ -17,4 +16,6 @@ mod tests;
 mod texts;
 mod top;
 
+pub use entry::{BadLine, Entry, What};
+pub use lines::SESSIONS;
 pub use top::{DONE, MAX_SCRIPT_BYTES, NO_MEMORY, READ_FAULT, TOO_LONG, USAGE, WRITE_FAULT, play};

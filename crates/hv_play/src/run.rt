@@ -1,151 +1,222 @@
 //! Doing a script's lines in order, and then the drain.
 
-ghost use Rattle.std.specs.Prelude.{◌≡◌, ◌≤◌, ◌<◌, ◌^◌, ◌+◌, [], ◌∷◌, length, Some, IfOk, IfSome, OnOk, OnErr, option_to_list};
+ghost use Rattle.std.specs.Prelude.{◌≡◌, ◌≤◌, ◌<◌, ◌^◌, ◌+◌, [], ◌∷◌, length, replicate, false, Some, IfOk, OnOk, OnErr};
 ghost use Rattle.serde_json.specs.Data.{depth};
 ghost use Rattle.serde_json.specs.Read.{max_depth};
 ghost use Rattle.serde_json.specs.View.{view};
 ghost use Rattle.serde_json.specs.Written.{compact_text, has_float};
-ghost use Rattle.std.specs.Prelude.{false};
 ghost use Rattle.hv_outer.specs.Causes.{HasCause};
-ghost use Rattle.hv_talk.specs.Talk.{Replies, new_talk};
-ghost use Rattle.hv_play.specs.Run.{whole, early, script, drain, duties_of, bad_entry};
+ghost use Rattle.hv_session.specs.Held.{replies_of};
+ghost use Rattle.hv_session.specs.Talk.{Replies, new_talk};
+ghost use Rattle.hv_play.specs.Run.{whole, early, script, drain, ticking, duties_of, round, is_anything_open, sixteen_sessions};
 ghost use Rattle.hv_play.specs.Script.{line_of, line_of_value, script_lines};
-ghost use Rattle.hv_play.specs.Steps.{Shows, DoneSoFar, CutShort, Wrote};
+ghost use Rattle.hv_play.specs.Steps.{at, entries_by, Shows, OneCloses, DoneSoFar, CutShort, Wrote};
 
-use crate::lines::{message_in_object, read_value, split_line};
-use crate::output::write_entry;
-use crate::session::Session;
+use crate::entry::{BadLine, LineAnswer};
+use crate::fields::text_at;
+use crate::lines::{SESSIONS, message_in_line, read_value, session_in, split_line, why_bad};
+use crate::output::{write_answer, write_reply};
+use crate::session::ScriptSession;
 use hv_outer::{IoErr, Sink};
-use hv_talk::{BadLine, Entry, Reply, What};
-use hv_value::Mem;
+use hv_session::Answer;
+use hv_value::{Catalog, Mem};
 use serde_json::Value;
 use std::alloc::Global;
+use std::sync::Arc;
 
-/// The session hears a message's compact text.
-fn hear(alloc: Global, session: &mut Session, message: &Value) -> Option<Reply>
+/// A session hears a message's compact text.
+fn hear_message(alloc: Global, session: &mut ScriptSession, message: &Value) -> Answer
     requires exact { has_float (view message.now) ≡ false }
     requires nests { depth (view message.now) ≤ max_depth }
-    ensures { Replies session.old (compact_text (view message.now)) (option_to_list result) session.new }
+    ensures { Replies [] session.old (compact_text (view message.now)) (replies_of result) session.new }
 {
     match message.to_string(alloc) {
-        Ok(text) => session.hear(alloc, text.as_str(), message),
-        Err(_) => Some(session.refuse()),
+        Ok(text) => session.hear_value(alloc, text.as_str(), message),
+        Err(_) => session.refuse(),
     }
 }
 
 /// Does a line that has a value.
-fn do_value(alloc: Global, number: u64, session: &mut Session, value: &Value) -> Option<Entry>
-    requires { depth (view value.now) ≤ max_depth }
-    ensures { Shows (duties_of number (line_of_value (Some (view value.now)))) session.old (option_to_list result) session.new }
+fn do_value(alloc: Global, sessions: &mut [ScriptSession], value: &Value) -> LineAnswer
+    requires all { length sessions.now ≡ SESSIONS }
+    requires nests { depth (view value.now) ≤ max_depth }
+    ensures { (k : _) → Shows (duties_of k (line_of_value (Some (view value.now)))) sessions.old (entries_by k result) sessions.new }
 {
-    if !value.is_object() {
-        return Some(bad(number, BadLine::Json));
-    }
-    let Some(message) = message_in_object(value) else {
-        return Some(bad(number, BadLine::Line));
+    let Some(s) = session_in(value) else {
+        return LineAnswer::Bad(why_bad(value));
     };
-    match hear(alloc, session, message) {
-        Some(reply) => Some(Entry {
-            line: number,
-            what: What::Out(0, reply),
-        }),
-        None => None,
+    let session = &mut sessions[s as usize];
+    if let Some(message) = message_in_line(value) {
+        return LineAnswer::Said(s as u32, hear_message(alloc, session, message));
+    }
+    match text_at(value, "raw") {
+        Some(text) => LineAnswer::Said(s as u32, session.hear(alloc, text)),
+        None => LineAnswer::Bad(why_bad(value)),
     }
 }
 
-fn bad(number: u64, why: BadLine) -> Entry
-    ensures { result ≡ bad_entry number why }
-{
-    Entry {
-        line: number,
-        what: What::Bad(why),
-    }
-}
-
-/// Does a line, and gives the output line that it shows, if any.
-fn do_line(alloc: Global, number: u64, session: &mut Session, line: &[u8]) -> Mem<Option<Entry>>
-    ensures { IfOk result (λ entry. Shows (duties_of number (line_of line.now)) session.old (option_to_list entry) session.new) }
+/// Does a line, and gives what is said of it at once.
+fn do_line(alloc: Global, sessions: &mut [ScriptSession], line: &[u8]) -> Mem<LineAnswer>
+    requires { length sessions.now ≡ SESSIONS }
+    ensures { IfOk result (λ answer. (k : _) → Shows (duties_of k (line_of line.now)) sessions.old (entries_by k answer) sessions.new) }
 {
     if line.is_empty() {
-        return Ok(None);
+        return Ok(LineAnswer::Nothing);
     }
     match read_value(alloc, line)? {
-        Some(value) => Ok(do_value(alloc, number, session, &value)),
-        None => Ok(Some(bad(number, BadLine::Json))),
+        Some(value) => Ok(do_value(alloc, sessions, &value)),
+        None => Ok(LineAnswer::Bad(BadLine::Json)),
     }
 }
 
-/// Does the first line of bytes, and gives the bytes after it.
-fn do_next<'a, O: Sink>(
+/// Does the first line of bytes, whatever it is, and gives the bytes after it.
+fn do_first<'a, O: Sink>(
     alloc: Global,
     number: u64,
-    session: &mut Session,
+    sessions: &mut [ScriptSession],
     rest: &'a [u8],
     out: &mut O,
 ) -> Result<&'a [u8], IoErr>
-    requires { 0 < length rest.now }
-    ensures ok { IfOk result (λ after. DoneSoFar (script number (script_lines rest.now) ∷ []) session.old
-        (script (number + 1) (script_lines after.now) ∷ []) session.new
+    requires some { 0 < length rest.now }
+    requires all { length sessions.now ≡ SESSIONS }
+    ensures ok { IfOk result (λ after. DoneSoFar (script number (script_lines rest.now) ∷ []) sessions.old
+        (script (number + 1) (script_lines after.now) ∷ []) sessions.new
         (O.taken out.old) (O.taken out.new) (O.faults out.old) (O.faults out.new)) }
     ensures shorter { IfOk result (λ after. length after.now < length rest.now) }
-    ensures err { OnErr result (CutShort (script number (script_lines rest.now) ∷ []) session.old (O.taken out.old) (O.taken out.new)) }
+    ensures err { OnErr result (CutShort (script number (script_lines rest.now) ∷ []) sessions.old (O.taken out.old) (O.taken out.new)) }
     ensures cause { HasCause (O.faults out.old) (O.faults out.new) result }
 {
-    // A script may be millions of empty lines, which show nothing.
+    let (line, after) = split_line(rest);
+    let answer = match do_line(alloc, sessions, line) {
+        Ok(answer) => answer,
+        Err(_) => return Err(IoErr::Memory),
+    };
+    write_answer(alloc, number, answer, out)?;
+    Ok(after)
+}
+
+/// Does the first line of bytes, and gives the bytes after it. A script may be millions of empty lines, which show
+/// nothing.
+fn do_next<'a, O: Sink>(
+    alloc: Global,
+    number: u64,
+    sessions: &mut [ScriptSession],
+    rest: &'a [u8],
+    out: &mut O,
+) -> Result<&'a [u8], IoErr>
+    requires some { 0 < length rest.now }
+    requires all { length sessions.now ≡ SESSIONS }
+    ensures ok { IfOk result (λ after. DoneSoFar (script number (script_lines rest.now) ∷ []) sessions.old
+        (script (number + 1) (script_lines after.now) ∷ []) sessions.new
+        (O.taken out.old) (O.taken out.new) (O.faults out.old) (O.faults out.new)) }
+    ensures shorter { IfOk result (λ after. length after.now < length rest.now) }
+    ensures err { OnErr result (CutShort (script number (script_lines rest.now) ∷ []) sessions.old (O.taken out.old) (O.taken out.new)) }
+    ensures cause { HasCause (O.faults out.old) (O.faults out.new) result }
+{
     if rest[0] == b'\n' {
         return Ok(&rest[1..]);
     }
-    let (line, after) = split_line(rest);
-    let entry = match do_line(alloc, number, session, line) {
-        Ok(entry) => entry,
-        Err(_) => return Err(IoErr::Memory),
-    };
-    write_entry(alloc, &entry, out)?;
-    Ok(after)
+    do_first(alloc, number, sessions, rest, out)
 }
 
 /// Does the lines of a script, and gives the number of the drain's lines: one more than there are.
 fn do_lines<O: Sink>(
     alloc: Global,
     bytes: &[u8],
-    session: &mut Session,
+    sessions: &mut [ScriptSession],
     out: &mut O,
 ) -> Result<u64, IoErr>
-    requires { length bytes.now < 2 ^ 40 }
-    ensures ok { IfOk result (λ number. DoneSoFar (script 1 (script_lines bytes.now) ∷ []) session.old
-        (drain number ∷ []) session.new
+    requires few { length bytes.now < 2 ^ 40 }
+    requires all { length sessions.now ≡ SESSIONS }
+    ensures ok { IfOk result (λ number. DoneSoFar (script 1 (script_lines bytes.now) ∷ []) sessions.old
+        (drain number ∷ []) sessions.new
         (O.taken out.old) (O.taken out.new) (O.faults out.old) (O.faults out.new)) }
-    ensures err { OnErr result (CutShort (script 1 (script_lines bytes.now) ∷ []) session.old (O.taken out.old) (O.taken out.new)) }
+    ensures err { OnErr result (CutShort (script 1 (script_lines bytes.now) ∷ []) sessions.old (O.taken out.old) (O.taken out.new)) }
     ensures cause { HasCause (O.faults out.old) (O.faults out.new) result }
 {
     let mut rest = bytes;
     let mut number: u64 = 1;
     while !rest.is_empty() {
-        rest = do_next(alloc, number, session, rest, out)?;
+        rest = do_next(alloc, number, sessions, rest, out)?;
         number += 1;
     }
     Ok(number)
 }
 
-/// Answers the open requests in the order in which they were opened.
+/// Answers the open requests of a session, by its number, in the order in which they were opened.
 fn answer_all<O: Sink>(
     alloc: Global,
     number: u64,
-    session: &mut Session,
+    s: u64,
+    sessions: &mut [ScriptSession],
     out: &mut O,
 ) -> Result<(), IoErr>
-    ensures ok { OnOk result (DoneSoFar (drain number ∷ []) session.old [] session.new (O.taken out.old) (O.taken out.new) (O.faults out.old) (O.faults out.new)) }
-    ensures err { OnErr result (CutShort (drain number ∷ []) session.old (O.taken out.old) (O.taken out.new)) }
+    requires within { s < SESSIONS }
+    requires all { length sessions.now ≡ SESSIONS }
+    ensures ok { OnOk result (DoneSoFar (ticking number s ∷ []) sessions.old [] sessions.new (O.taken out.old) (O.taken out.new) (O.faults out.old) (O.faults out.new)) }
+    ensures closes { OnOk result (OneCloses s sessions.old sessions.new) }
+    ensures err { OnErr result (CutShort (ticking number s ∷ []) sessions.old (O.taken out.old) (O.taken out.new)) }
     ensures cause { HasCause (O.faults out.old) (O.faults out.new) result }
 {
-    while let Some(reply) = session.answer_first(alloc) {
-        let entry = Some(Entry {
-            line: number,
-            what: What::Out(0, reply),
-        });
-        write_entry(alloc, &entry, out)?;
+    while let Some(reply) = sessions[s as usize].answer_first(alloc) {
+        write_reply(alloc, number, s as u32, reply, out)?;
     }
     Ok(())
+}
+
+/// A round of the drain: the open requests of each session in order are answered.
+fn do_round<O: Sink>(
+    alloc: Global,
+    number: u64,
+    sessions: &mut [ScriptSession],
+    out: &mut O,
+) -> Result<(), IoErr>
+    requires { length sessions.now ≡ SESSIONS }
+    ensures ok { OnOk result (DoneSoFar (round sixteen_sessions number) sessions.old [] sessions.new (O.taken out.old) (O.taken out.new) (O.faults out.old) (O.faults out.new)) }
+    ensures closed { OnOk result (is_anything_open (at sessions.new) ≡ false) }
+    ensures err { OnErr result (CutShort (round sixteen_sessions number) sessions.old (O.taken out.old) (O.taken out.new)) }
+    ensures cause { HasCause (O.faults out.old) (O.faults out.new) result }
+{
+    for s in 0..SESSIONS {
+        answer_all(alloc, number, s, sessions, out)?;
+    }
+    Ok(())
+}
+
+fn is_any_waiting(sessions: &[ScriptSession]) -> bool
+    ensures { result ≡ is_anything_open (at sessions.now) }
+{
+    sessions.iter().any(|session| session.is_waiting())
+}
+
+/// The drain. One round is enough, since it answers every open request.
+fn do_drain<O: Sink>(
+    alloc: Global,
+    number: u64,
+    sessions: &mut [ScriptSession],
+    out: &mut O,
+) -> Result<(), IoErr>
+    requires { length sessions.now ≡ SESSIONS }
+    ensures ok { OnOk result (DoneSoFar (drain number ∷ []) sessions.old [] sessions.new (O.taken out.old) (O.taken out.new) (O.faults out.old) (O.faults out.new)) }
+    ensures err { OnErr result (CutShort (drain number ∷ []) sessions.old (O.taken out.old) (O.taken out.new)) }
+    ensures cause { HasCause (O.faults out.old) (O.faults out.new) result }
+{
+    if is_any_waiting(sessions) {
+        do_round(alloc, number, sessions, out)?;
+    }
+    Ok(())
+}
+
+/// The sessions of a script, which have heard nothing.
+fn new_sessions(alloc: Global) -> Mem<Vec<ScriptSession>>
+    ensures { IfOk result (λ sessions. sessions.items ≡ replicate SESSIONS new_talk) }
+{
+    let catalog = Arc::new(alloc, Catalog::new(Vec::new(alloc)))?;
+    let mut sessions = Vec::new(alloc);
+    for _s in 0..SESSIONS {
+        sessions.push(ScriptSession::new(alloc, catalog.clone()?)?)?;
+    }
+    Ok(sessions)
 }
 
 /// Does a script: its lines in order, and then the drain.
@@ -155,7 +226,11 @@ pub(crate) fn run<O: Sink>(alloc: Global, bytes: &[u8], out: &mut O) -> Result<(
     ensures cut { OnErr result (Wrote early bytes.now (O.taken out.old) (O.taken out.new)) }
     ensures cause { HasCause (O.faults out.old) (O.faults out.new) result }
 {
-    let mut session = Session::new(alloc);
-    let number = do_lines(alloc, bytes, &mut session, out)?;
-    answer_all(alloc, number, &mut session, out)
+    let mut sessions = match new_sessions(alloc) {
+        Ok(sessions) => sessions,
+        Err(_) => return Err(IoErr::Memory),
+    };
+    let all = sessions.as_mut_slice();
+    let number = do_lines(alloc, bytes, all, out)?;
+    do_drain(alloc, number, all, out)
 }

@@ -1,4 +1,11 @@
-pub mod Range
-pub mod RangeSums
-pub mod RangeLaws
+pub mod CellLaws
+pub mod ColumnCells
+pub mod Distinct
+pub mod DistinctLaws
+pub mod DistinctSums
+pub mod Extremes
 pub mod IsRange
+pub mod Joining
+pub mod Range
+pub mod RangeLaws
+pub mod RangeSums

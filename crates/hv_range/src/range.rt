@@ -3,13 +3,13 @@
 ghost use Rattle.std.specs.Prelude.{◌≡◌};
 
 use crate::RangeSummary;
-use crate::summary::{empty, of_cell, sum};
+use crate::summary::{add_cell, sum};
 use hv_sketch::{Gather, Vizketch, gather_rows, is_column_of};
 use hv_value::{Kind, Mem, Schema, Table};
 use std::alloc::Global;
 
 /// The range of one column.
-#[derive(Clone, Copy, Debug, PartialEq, Eq)]
+#[derive(Clone, Copy, Debug, PartialEq, Eq, Hash)]
 pub struct Range {
     /// The place of the column, from 0.
     pub col: u32,
@@ -31,61 +31,58 @@ impl Gather for Range {
 
     type Gathered = RangeSummary;
 
-    ghost gathers = { λ view rows summary. IsRange view.col rows summary };
+    ghost gathers = { λ view rows summary. IsRange view.kind view.col rows summary };
 
     ghost takes = { λ view columns. IsColumnOf columns view.col view.kind };
 
     fn start(&self, _alloc: Global) -> Mem<RangeSummary> {
-        Ok(empty())
+        Ok(RangeSummary::empty())
     }
 
     fn add_row<T: Table>(
         &self,
-        _alloc: Global,
+        alloc: Global,
         kept: &mut RangeSummary,
         table: &T,
         row: u32,
     ) -> Mem<()> {
-        let one = of_cell(table.cell(row, self.col));
-        *kept = sum(kept, &one);
-        Ok(())
+        add_cell(alloc, kept, table.cell(row, self.col))
     }
 }
 
 impl Vizketch for Range {
-    ghost use Rattle.std.specs.Prelude.{⊤};
     ghost use Rattle.hv_sketch.specs.Columns.{IsColumnOf};
-    ghost use Rattle.hv_range.specs.IsRange.{IsRange};
+    ghost use Rattle.hv_range.specs.IsRange.{IsRange, TakesNoMemory};
     ghost use Rattle.hv_range.specs.RangeLaws.{IsRange-swap};
 
     type Summary = RangeSummary;
 
-    ghost stands = { λ view rows summary. IsRange view.col rows summary };
+    ghost stands = { λ view rows summary. IsRange view.kind view.col rows summary };
 
     ghost fits_columns = { λ view columns. IsColumnOf columns view.col view.kind };
 
-    ghost merges_always = { λ view. ⊤ };
+    ghost merges_always = { λ view. TakesNoMemory view.kind };
 
     fn fits(&self, schema: &Schema) -> bool {
         is_column_of(schema, self.col, self.kind)
     }
 
     fn zero(&self, _alloc: Global) -> Mem<RangeSummary> {
-        Ok(empty())
+        Ok(RangeSummary::empty())
     }
 
     fn summarize<T: Table>(&self, alloc: Global, table: &T) -> Mem<RangeSummary> {
         gather_rows(alloc, self, table)
     }
 
-    fn merge_into(&self, _alloc: Global, acc: &mut RangeSummary, d: &RangeSummary) -> Mem<()> {
-        *acc = sum(acc, d);
+    fn merge_into(&self, alloc: Global, acc: &mut RangeSummary, d: &RangeSummary) -> Mem<()> {
+        *acc = sum(alloc, acc, d)?;
         Ok(())
     }
 
-    fn copy(&self, _alloc: Global, s: &RangeSummary) -> Mem<RangeSummary> {
-        Ok(*s)
+    fn copy(&self, alloc: Global, s: &RangeSummary) -> Mem<RangeSummary> {
+        s.copy(alloc)
     }
 
-    ghost any_order = { λ view a b c summary h. IsRange-swap view.col a b c summary h };
+    ghost any_order = { λ view a b c summary h. IsRange-swap view.kind view.col a b c summary h };
 }

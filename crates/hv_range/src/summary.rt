@@ -1,95 +1,115 @@
-//! The range of a column as a value: that of no rows, of one cell, and of the rows of two ranges
+//! The range of a column as a value: that of no rows, of one cell more, and of the rows of two ranges
 //! (specs/Range.antt, specs/RangeSums.antt).
 
-ghost use Rattle.std.specs.Prelude.{◌≡◌, ℕ, pos, [], None};
-ghost use Rattle.std.specs.Int.{int_min, int_max};
+ghost use Rattle.std.specs.Prelude.{◌≡◌, ℕ, pos, true, false, Bool, not, if◌then◌else◌, IsOk, IfOk, OnOk, FitsSigned};
+ghost use Rattle.std.specs.Int.{w64};
+ghost use Rattle.hv_value.specs.declared.cell.Cell.TheVariants as cells;
 ghost use Rattle.hv_value.specs.Cells.{cell_lent};
-ghost use Rattle.hv_range.specs.RangeSums.{CanAdd, IsSmall, cell_range, empty_range, join, range_sum};
+ghost use Rattle.hv_range.specs.ColumnCells.{is_missing, is_text, number_of};
+ghost use Rattle.hv_range.specs.RangeSums.{CanAdd, cell_range, empty_range, range_sum};
 
-use hv_value::CellRef;
+use crate::extremes::{copied, greatest_of, least_of, widen};
+use hv_value::{Cell, CellRef, Mem};
+use std::alloc::Global;
 
 /// The range of a column over some rows.
-#[derive(Clone, Copy, Debug, PartialEq, Eq)]
+#[derive(Drop)]
 pub struct RangeSummary {
     /// How many cells aren't missing.
     pub count: u64,
     /// How many cells are missing.
     pub missing: u64,
-    /// The least number, where there is one.
-    pub least: Option<i64>,
-    /// The greatest number, where there is one.
-    pub greatest: Option<i64>,
-    /// The exact sum of the numbers.
+    /// The least cell that isn't missing, where there is one, else a missing one.
+    pub least: Cell,
+    /// The greatest, likewise.
+    pub greatest: Cell,
+    /// The exact sum of the whole numbers, 0 for a column of another kind.
     pub sum: i128,
 }
 
-/// The range of no rows.
-pub(crate) fn empty() -> RangeSummary
-    ensures { result ≡ empty_range }
-{
-    without_numbers(0)
-}
+impl RangeSummary {
+    /// The range of no rows.
+    pub(crate) fn empty() -> RangeSummary
+        ensures { result ≡ empty_range }
+    {
+        RangeSummary {
+            count: 0,
+            missing: 0,
+            least: Cell::Missing,
+            greatest: Cell::Missing,
+            sum: 0,
+        }
+    }
 
-/// The range of rows without a number, so many of them with a missing cell.
-fn without_numbers(missing: u64) -> RangeSummary
-    ensures { result ≡ record { count = 0; missing = missing; least = None; greatest = None; sum = pos 0 } }
-{
-    RangeSummary {
-        count: 0,
-        missing,
-        least: None,
-        greatest: None,
-        sum: 0,
+    /// An equal range.
+    pub fn copy(&self, alloc: Global) -> Mem<RangeSummary>
+        ensures { IfOk result (λ s. s ≡ self.now) }
+    {
+        Ok(RangeSummary {
+            count: self.count,
+            missing: self.missing,
+            least: copied(alloc, &self.least)?,
+            greatest: copied(alloc, &self.greatest)?,
+            sum: self.sum,
+        })
     }
 }
 
-/// The range of one cell.
-pub(crate) fn of_cell(cell: CellRef<'_>) -> RangeSummary
-    ensures value { result ≡ cell_range (cell_lent cell.entry) }
-    ensures small { IsSmall (cell_lent cell.entry) }
+/// Whether a cell is missing.
+pub(crate) fn is_missing(cell: CellRef<'_>) -> bool
+    ensures { result ≡ is_missing (cell_lent cell.entry) }
 {
     match cell {
-        CellRef::Missing => without_numbers(1),
-        CellRef::Int(n) => RangeSummary {
-            count: 1,
-            missing: 0,
-            least: Some(n),
-            greatest: Some(n),
-            sum: n as i128,
-        },
-        CellRef::Date(_) => without_numbers(0),
-        CellRef::Text(_) => without_numbers(0),
+        CellRef::Missing => true,
+        _ => false,
     }
 }
 
-fn lesser(a: Option<i64>, b: Option<i64>) -> Option<i64>
-    ensures { result ≡ join int_min a b }
+/// 1 where something is so, else 0.
+fn one_where(so: bool) -> u64
+    ensures { result ≡ (if so then 1 else 0) }
 {
-    match (a, b) {
-        (Some(m), Some(n)) => Some(m.min(n)),
-        (None, other) | (other, None) => other,
+    if so { 1 } else { 0 }
+}
+
+/// The whole number that a cell holds, 0 where it holds none.
+fn number_of(cell: CellRef<'_>) -> i64
+    ensures value { result ≡ number_of (cell_lent cell.entry) }
+    ensures small { FitsSigned w64 (number_of (cell_lent cell.entry)) }
+{
+    match cell {
+        CellRef::Int(n) => n,
+        _ => 0,
     }
 }
 
-fn greater(a: Option<i64>, b: Option<i64>) -> Option<i64>
-    ensures { result ≡ join int_max a b }
+/// Adds a cell to the range of some rows. A text is copied only where it is a new least or greatest.
+pub(crate) fn add_cell(alloc: Global, kept: &mut RangeSummary, cell: CellRef<'_>) -> Mem<()>
+    requires { FitsSigned w64 (number_of (cell_lent cell)) → CanAdd kept.old (cell_range (cell_lent cell)) }
+    ensures value { OnOk result (kept.new ≡ range_sum kept.old (cell_range (cell_lent cell.entry))) }
+    ensures small { FitsSigned w64 (number_of (cell_lent cell.entry)) }
 {
-    match (a, b) {
-        (Some(m), Some(n)) => Some(m.max(n)),
-        (None, other) | (other, None) => other,
-    }
+    let number = number_of(cell);
+    let missing = is_missing(cell);
+    widen(alloc, &mut kept.least, &mut kept.greatest, cell)?;
+    kept.count += one_where(!missing);
+    kept.missing += one_where(missing);
+    kept.sum += i128::from(number);
+    Ok(())
 }
 
 /// The range of the rows of both.
-pub(crate) fn sum(a: &RangeSummary, b: &RangeSummary) -> RangeSummary
+pub(crate) fn sum(alloc: Global, a: &RangeSummary, b: &RangeSummary) -> Mem<RangeSummary>
     requires { CanAdd a.now b.now }
-    ensures { result ≡ range_sum a.now b.now }
+    ensures value { IfOk result (λ s. s ≡ range_sum a.now b.now) }
+    ensures always { is_text a.now.least ≡ false → is_text b.now.least ≡ false → is_text a.now.greatest ≡ false
+        → is_text b.now.greatest ≡ false → IsOk result }
 {
-    RangeSummary {
+    Ok(RangeSummary {
         count: a.count + b.count,
         missing: a.missing + b.missing,
-        least: lesser(a.least, b.least),
-        greatest: greater(a.greatest, b.greatest),
+        least: least_of(alloc, &a.least, &b.least)?,
+        greatest: greatest_of(alloc, &a.greatest, &b.greatest)?,
         sum: a.sum + b.sum,
-    }
+    })
 }

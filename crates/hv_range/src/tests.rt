@@ -1,13 +1,14 @@
-//! The range over small tables. Expected values are worked by hand.
+//! The range and the distinct values of small tables of whole numbers; those of every kind are tested in hv_view,
+//! the crate above. Expected values are worked by hand.
 
 ghost use Rattle.std.specs.Prelude.{◌≡◌, [], ◌∷◌, codes, IfOk};
 ghost use Rattle.hv_value.specs.Cells.{cell_lent};
 ghost use Rattle.hv_value.specs.Rows.{int_cell};
 ghost use Rattle.hv_value.specs.declared.cell.Kind.TheVariants as kind;
 
-use crate::{Range, RangeSummary};
+use crate::{Distinct, DistinctSummary, Range, RangeSummary, Values};
 use hv_sketch::{Vizketch, add_part, order_is_free};
-use hv_value::{CellRef, Kind, Mem, Schema, Table, Text};
+use hv_value::{Cell, CellRef, Kind, Schema, Table, Text};
 use std::alloc::Global;
 use std::test::Fail;
 
@@ -89,46 +90,100 @@ fn two_rows(
 
 const LEAST: Option<i64> = Some(i64::MIN);
 
+/// The cell of a whole number, or a missing one.
+fn cell_of(n: Option<i64>) -> Cell {
+    match n {
+        Some(n) => Cell::Int(n),
+        None => Cell::Missing,
+    }
+}
+
+/// A range of so many missing cells and of numbers with these bounds.
+fn range(count: u64, missing: u64, bounds: [Option<i64>; 2], sum: i128) -> RangeSummary {
+    RangeSummary {
+        count,
+        missing,
+        least: cell_of(bounds[0]),
+        greatest: cell_of(bounds[1]),
+        sum,
+    }
+}
+
+fn are_equal(a: &RangeSummary, b: &RangeSummary) -> bool {
+    a.count == b.count
+        && a.missing == b.missing
+        && a.least == b.least
+        && a.greatest == b.greatest
+        && a.sum == b.sum
+}
+
+/// Whether the distinct values are these numbers.
+fn are(found: &DistinctSummary, numbers: &[i64], more: bool) -> bool {
+    let values = found.values.as_slice();
+    found.more == more
+        && values.len() == numbers.len()
+        && values
+            .iter()
+            .zip(numbers.iter())
+            .all(|(value, n)| *value == Cell::Int(*n))
+}
+
+/// A copy of the summary of the rows of partitions 0 and 1.
+fn of_both<V: Vizketch>(
+    alloc: Global,
+    view: &V,
+    low: &TwoRows,
+    high: &TwoRows,
+) -> Result<V::Summary, Fail>
+    requires low { low.now.part ≡ 0 }
+    requires high { high.now.part ≡ 1 }
+{
+    if !view.fits(&low.schema) || !view.fits(&high.schema) {
+        return Err(Fail::from("the view fits"));
+    }
+    let mut acc = view.zero(alloc)?;
+    add_part(alloc, view, &mut acc, low)?;
+    add_part(alloc, view, &mut acc, high)?;
+    order_is_free(view, &acc);
+    Ok(view.copy(alloc, &acc)?)
+}
+
 #[test]
 fn each_partition_adds_its_rows(rt: HostRuntime) -> Result<(), Fail> {
-    let view = Range::new(0, Kind::Int);
     let low = two_rows(rt.alloc(), 0, Some(9), None)?;
     let high = two_rows(rt.alloc(), 1, Some(-2), Some(5))?;
-    let mut acc = view.zero(rt.alloc())?;
-    add_part(rt.alloc(), &view, &mut acc, &low)?;
-    add_part(rt.alloc(), &view, &mut acc, &high)?;
-    order_is_free(&view, &acc);
-    let want = RangeSummary {
-        count: 3,
-        missing: 1,
-        least: Some(-2),
-        greatest: Some(9),
-        sum: 12,
-    };
-    assert_eq!(rt; acc, want);
-    assert_eq!(rt; view.copy(rt.alloc(), &acc)?, want);
+    let found = of_both(rt.alloc(), &Range::new(0, Kind::Int), &low, &high)?;
+    assert!(rt; are_equal(&found, &range(3, 1, [Some(-2), Some(9)], 12)));
+    let found = of_both(rt.alloc(), &Distinct::new(0, 2), &low, &high)?;
+    assert!(rt; are(&found, &[-2, 5], true));
     Ok(())
 }
 
 #[test]
 fn a_table_is_summarised(rt: HostRuntime) -> Result<(), Fail> {
     let view = Range::new(0, Kind::Int);
-    for (first, second, count, least, greatest, sum) in [
-        (None, None, 0, None, None, 0),
-        (Some(4), None, 1, Some(4), Some(4), 4),
-        (None, Some(4), 1, Some(4), Some(4), 4),
-        (LEAST, LEAST, 2, Some(i64::MIN), Some(i64::MIN), -(1 << 64)),
+    let distinct = Distinct::new(0, 1);
+    for (first, second, bounds, sum, values, more) in [
+        (None, None, [None, None], 0, &[0i64][..0], false),
+        (Some(4), None, [Some(4), Some(4)], 4, &[4][..], false),
+        (None, Some(4), [Some(4), Some(4)], 4, &[4][..], false),
+        (Some(4), Some(3), [Some(3), Some(4)], 7, &[3][..], true),
+        (
+            LEAST,
+            LEAST,
+            [LEAST, LEAST],
+            -(1 << 64),
+            &[i64::MIN][..],
+            false,
+        ),
     ] {
         let table = two_rows(rt.alloc(), 0, first, second)?;
+        let missing = u64::from(first.is_none()) + u64::from(second.is_none());
+        let want = range(2 - missing, missing, bounds, sum);
         let found = view.summarize(rt.alloc(), &table)?;
-        let want = RangeSummary {
-            count,
-            missing: 2 - count,
-            least,
-            greatest,
-            sum,
-        };
-        assert_eq!(rt; found, want, "at {first:?} and {second:?}");
+        assert!(rt; are_equal(&found, &want), "at {first:?} and {second:?}");
+        let found = distinct.summarize(rt.alloc(), &table)?;
+        assert!(rt; are(&found, values, more), "at {first:?} and {second:?}");
     }
     Ok(())
 }
@@ -138,6 +193,12 @@ fn the_column_must_be_there(rt: HostRuntime) -> Result<(), Fail> {
     let schema = one_column(rt.alloc())?;
     for (col, want) in [(0, true), (1, false)] {
         assert_eq!(rt; Range::new(col, Kind::Int).fits(&schema), want, "at {col}");
+        assert_eq!(rt; Distinct::new(col, 3).fits(&schema), want, "at {col}");
     }
+    assert!(rt; !Range::new(0, Kind::Text).fits(&schema));
+    assert_eq!(rt;
+        Values::new(rt.alloc()).copy(rt.alloc())?.as_slice().len(),
+        0
+    );
     Ok(())
 }

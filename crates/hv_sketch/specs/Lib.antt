@@ -1,3 +1,4 @@
 pub mod Columns
 pub mod Merging
 pub mod Parts
+pub mod Rising

@@ -1,3 +1,4 @@
+pub mod CivilLemmas
 pub mod DayLemmas
 pub mod RecordsOfBytes
 pub mod RowsOfBytes

@@ -1,7 +1,11 @@
+pub mod Catalog
 pub mod Cells
+pub mod Civil
 pub mod Days
 pub mod Number
 pub mod Order
 pub mod Schema
 pub mod Rows
+pub mod Same
+pub mod SameLaws
 pub mod Table

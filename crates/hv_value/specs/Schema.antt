@@ -1,7 +1,9 @@
 -- A schema: the names and kinds of a table's columns, in order.
-use Rattle.std.specs.Prelude.{ℕ, List, [], ◌∷◌, length, Bool, true, not, ◌&&◌, nat_lt, nat_le, Option, position, bytes_eq}
+use Rattle.std.specs.Prelude.{ℕ, List, [], ◌∷◌, length, Bool, true, not, ◌&&◌, nat_lt, nat_le, Option, position, bytes_eq, codes}
 use Rattle.std.specs.List.{list_all, list_any}
 use Rattle.hv_value.specs.declared.cell.Kind.{Kind}
+use Rattle.hv_value.specs.declared.schema.SchemaErr.{SchemaErr}
+use Rattle.hv_value.specs.declared.schema.SchemaErr.TheVariants.{BadSchema, Memory}
 use Rattle.hv_value.specs.declared.schema.TheConstants.{MAX_COLUMNS, MAX_NAME_BYTES}
 
 -- the columns, each with its name's bytes and its kind
@@ -28,3 +30,8 @@ is_schema columns = nat_lt 0 (length columns) && nat_le (length columns) MAX_COL
 -- the place of the column with a name
 abbrev pub column_place : List ℕ → Columns → Option ℕ
 column_place name columns = position (is_named name) columns
+
+-- what an error says
+abbrev pub schema_err_text : SchemaErr → List ℕ
+schema_err_text BadSchema = codes "the columns make no schema"
+schema_err_text Memory = codes "out of memory"

@@ -4,6 +4,7 @@
 ghost use Rattle.std.specs.Prelude.{◌≡◌, ◌<◌, ◌+◌, ◌∷◌, ◌++◌, [], pos, true, Some};
 ghost use Rattle.jiff_core.specs.Date.{epoch_day};
 ghost use Rattle.jiff_fmt.specs.Text.{pad2, pad4};
+ghost use Rattle.hv_value.specs.Civil.{text_of_day};
 ghost use Rattle.hv_value.specs.Days.{IsTextOfDay, day_of_date, day_of_text, has_date_form, is_day_number};
 
 use crate::number::number_of;
@@ -94,6 +95,7 @@ fn text_of_date(year: u16, month: u8, day: u8) -> [u8; 10]
 pub fn date_text(day: i32) -> [u8; 10]
     requires { is_day_number day ≡ true }
     ensures text { IsTextOfDay day result }
+    ensures value { result ≡ text_of_day day }
     ensures reads_back { day_of_text result ≡ Some day }
 {
     let date = date_of(day);

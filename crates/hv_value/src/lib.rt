@@ -1,6 +1,7 @@
 //! The values of a table: texts, cells, schemas, rows and the interface of a table.
 #![tactic(auto)]
 
+mod catalog;
 mod cell;
 mod day;
 mod memory;
@@ -10,6 +11,7 @@ mod schema;
 mod table;
 mod text;
 
+pub use catalog::{Catalog, MAX_PARTITIONS};
 pub use cell::{Cell, CellRef, Kind};
 pub use day::{date_text, day_of};
 pub use memory::{Mem, Memory};

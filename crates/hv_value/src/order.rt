@@ -31,7 +31,7 @@ fn place_of(cell: CellRef<'_>) -> u8
 }
 
 /// The number by which a cell orders among those of its variant, 0 where it has none.
-fn number_of(cell: CellRef<'_>) -> i64
+pub(crate) fn number_of(cell: CellRef<'_>) -> i64
     ensures { result ≡ order_number (cell_lent cell.entry) }
 {
     match cell {
@@ -42,7 +42,7 @@ fn number_of(cell: CellRef<'_>) -> i64
 }
 
 /// The text by which a cell orders among those of its variant, empty where it has none.
-fn text_of<'a>(cell: CellRef<'a>) -> &'a str
+pub(crate) fn text_of<'a>(cell: CellRef<'a>) -> &'a str
     ensures { result.now ≡ order_bytes (cell_lent cell.entry) }
 {
     match cell {

@@ -1,12 +1,19 @@
 //! Schemas. Contracts see one as the list of its columns, each a name and a kind.
 
-ghost use Rattle.std.specs.Prelude.{◌≡◌, ◌<◌, ◌≤◌, ◌↔◌, true, false, length, map, IfOk, IsErrOf, slice_get, option_map, Some};
+ghost use Rattle.std.specs.Prelude.{◌≡◌, ◌<◌, ◌≤◌, ◌↔◌, true, false, length, map, IsTrue, IfOk, IsErrOf, slice_get, option_map, Some};
 ghost use Rattle.std.specs.List.{list_all, list_any};
+ghost use Rattle.std.specs.Cmp.{partial_equiv_from_equiv};
+ghost use Rattle.std.specs.Hash as fed;
+ghost use Rattle.std.proofs.Common.{ap};
+ghost use Rattle.hv_value.specs.Same.{same_by};
+ghost use Rattle.hv_value.specs.SameLaws.{same_by-decides, same_by-equiv};
+ghost use Rattle.hv_value.specs.Schema.{schema_err_text};
 ghost use Rattle.hv_value.specs.Schema.{is_schema, is_named, has_fit_name, have_own_names, column_place};
 
 use crate::{Kind, Text};
 use std::error::Error;
 use std::fmt;
+use std::hash::{Hash, Hasher};
 use std::marker::Model;
 
 /// The most columns of a table.
@@ -24,6 +31,8 @@ pub enum SchemaErr {
 }
 
 impl fmt::Display for SchemaErr {
+    ghost output = { λ err. Some (schema_err_text err) };
+
     fn fmt<W: fmt::Write>(&self, f: &mut fmt::Formatter<W>) -> fmt::Result {
         f.write_str(match self {
             SchemaErr::BadSchema => "the columns make no schema",
@@ -49,6 +58,43 @@ impl Model for Schema {
     ghost view = { λ schema. schema.cols.items };
 
     ghost invariant = { λ schema. is_schema schema.cols.items ≡ true };
+}
+
+/// Two schemas are equal where their columns are, in order.
+impl PartialEq for Schema {
+    ghost use Rattle.hv_value.specs.contracts.schema.Schema as row;
+
+    ghost eq = { same_by row.the_row.coded };
+
+    ghost laws = { partial_equiv_from_equiv (same_by-equiv row.the_row.coded) };
+
+    fn eq(&self, other: &Schema) -> bool {
+        are_same_columns(self.cols.as_slice(), other.cols.as_slice())
+    }
+}
+
+fn are_same_columns(a: &[(Text, Kind)], b: &[(Text, Kind)]) -> bool
+    ensures { IsTrue result ↔ (a.now ≡ b.now) }
+{
+    a == b
+}
+
+impl Eq for Schema {
+    ghost use Rattle.hv_value.specs.contracts.schema.Schema as row;
+
+    ghost laws = { same_by-equiv row.the_row.coded };
+}
+
+impl Hash for Schema {
+    ghost use Rattle.hv_value.specs.contracts.schema.Schema as row;
+
+    ghost hash_input = { λ columns. fed.usize (length columns) };
+
+    ghost respects_eq = { λ x y e. ap (λ columns. fed.usize (length columns)) ((same_by-decides row.the_row.coded x y).0 e) };
+
+    fn hash<H: Hasher>(&self, state: &mut H) {
+        self.cols.len().hash(state);
+    }
 }
 
 fn is_fit_name(column: &(Text, Kind)) -> bool

@@ -1,6 +1,7 @@
 use super::*;
 use std::alloc::Global;
 use std::cmp::Ordering;
+use std::test::Fail;
 
 /// The days of the calendar whose numbers are known from outside: Python's `datetime` gives the same.
 #[test]
@@ -177,6 +178,63 @@ fn no_other_columns_make_a_schema(rt: HostRuntime) -> Result<(), Memory> {
             cols.push((Text::of(rt.alloc(), name.as_str())?, Kind::Text))?;
         }
         assert_eq!(rt; Schema::new(cols).err(), want, "of {count}");
+    }
+    Ok(())
+}
+
+// Each cell is equal to itself alone, though numbers and days look alike.
+#[test]
+fn only_the_same_cells_are_equal(rt: HostRuntime) -> Result<(), Memory> {
+    let cells = [
+        CellRef::Missing,
+        CellRef::Int(0),
+        CellRef::Int(1),
+        CellRef::Date(0),
+        CellRef::Date(1),
+        CellRef::Text(""),
+        CellRef::Text("ab"),
+        CellRef::Text("b"),
+    ];
+    for (i, a) in cells.iter().enumerate() {
+        for (j, b) in cells.iter().enumerate() {
+            let same = Cell::of(rt.alloc(), *a)? == Cell::of(rt.alloc(), *b)?;
+            assert_eq!(rt; same, i == j, "at {i} and {j}");
+        }
+    }
+    Ok(())
+}
+
+#[test]
+fn schemas_are_equal_by_names_and_kinds_in_order(rt: HostRuntime) -> Result<(), Fail> {
+    let kinds = [Kind::Int, Kind::Text];
+    let schema = schema_of(rt.alloc(), &["x", "y"], &kinds)?;
+    for (names, kinds, want) in [
+        (["x", "y"], [Kind::Int, Kind::Text], true),
+        (["x", "z"], [Kind::Int, Kind::Text], false),
+        (["y", "x"], [Kind::Int, Kind::Text], false),
+        (["x", "y"], [Kind::Int, Kind::Date], false),
+    ] {
+        let other = schema_of(rt.alloc(), names.as_slice(), kinds.as_slice())?;
+        assert_eq!(rt; schema == other, want);
+    }
+    Ok(())
+}
+
+#[test]
+fn a_catalog_knows_its_tables_by_name(rt: HostRuntime) -> Result<(), Memory> {
+    let alloc = rt.alloc();
+    let tables = vec![in alloc;
+        (Text::of(alloc, "flights")?, 8),
+        (Text::of(alloc, "t")?, 0),
+    ]?;
+    let catalog = Catalog::new(tables);
+    for (name, want) in [
+        ("flights", Some(8)),
+        ("t", Some(0)),
+        ("flight", None),
+        ("", None),
+    ] {
+        assert_eq!(rt; catalog.parts_of(name), want, "at {name}");
     }
     Ok(())
 }

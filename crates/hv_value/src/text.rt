@@ -1,9 +1,15 @@
 //! Texts. Contracts see one as its list of bytes, which is UTF-8.
 
-ghost use Rattle.std.specs.Prelude.{◌≡◌, IfOk};
+ghost use Rattle.std.specs.Prelude.{◌≡◌, IfOk, bytes_eq};
+ghost use Rattle.std.specs.Cmp.{partial_equiv_from_equiv};
+ghost use Rattle.std.specs.Hash as fed;
+ghost use Rattle.std.proofs.Common.{ap};
+ghost use Rattle.std.proofs.lemmas.Slice.Eq.{bytes_eq-Decides};
+ghost use Rattle.hv_value.specs.SameLaws.{equiv_from_decides};
 
 use crate::Mem;
 use std::alloc::Global;
+use std::hash::{Hash, Hasher};
 use std::marker::Model;
 
 /// A text of its own memory.
@@ -40,5 +46,30 @@ impl Text {
         ensures { IfOk result (λ text. text ≡ self.now) }
     {
         Text::of(alloc, self.as_str())
+    }
+}
+
+/// Two texts are equal where their bytes are.
+impl PartialEq for Text {
+    ghost eq = { bytes_eq };
+
+    ghost laws = { partial_equiv_from_equiv (equiv_from_decides bytes_eq bytes_eq-Decides) };
+
+    fn eq(&self, other: &Text) -> bool {
+        self.as_str() == other.as_str()
+    }
+}
+
+impl Eq for Text {
+    ghost laws = { equiv_from_decides bytes_eq bytes_eq-Decides };
+}
+
+impl Hash for Text {
+    ghost hash_input = { λ text. fed.str text };
+
+    ghost respects_eq = { λ x y e. ap fed.str ((bytes_eq-Decides x y).0 e) };
+
+    fn hash<H: Hasher>(&self, state: &mut H) {
+        self.as_str().hash(state);
     }
 }

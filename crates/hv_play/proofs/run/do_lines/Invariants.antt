@@ -8,7 +8,7 @@ use Rattle.hv_play.proofs.run.do_lines.Given as goal
 abbrev pub invariant-loop-rest : goal.invariant-loop-rest
 invariant-loop-rest g l =
     record {
-      done : DoneSoFar (script 1 (script_lines l.fn.bytes) ∷ []) l.fn.session (script l.number (script_lines l.rest) ∷ []) l.session
+      done : DoneSoFar (script 1 (script_lines l.fn.bytes) ∷ []) l.fn.sessions (script l.number (script_lines l.rest) ∷ []) l.sessions
           (g.O.Sink.taken l.fn.out) (g.O.Sink.taken l.out) (g.O.Sink.faults l.fn.out) (g.O.Sink.faults l.out);
       few : l.number + length l.rest ≤ length l.fn.bytes + 1;
     }

@@ -1,27 +1,52 @@
-use Rattle.std.proofs.Common.{◌∷◌, [], sym, subst, Some}
+use Rattle.std.proofs.Common.{◌<◌, ◌∷◌, [], ◌∙◌, length, sym, ap, subst, arith}
 use Rattle.serde_json.specs.View.{view}
-use Rattle.hv_play.specs.Script.{line_of_value}
+use Rattle.serde_json.specs.Written.{compact_text}
+use Rattle.std.specs.Prelude.{Some, slice_set}
+use Rattle.std.proofs.lemmas.List.{set-get_or}
+use Rattle.hv_session.specs.Held.{replies_of}
+use Rattle.hv_play.specs.declared.entry.LineAnswer.TheVariants.{Bad, Said}
 use Rattle.hv_play.specs.Run.{duties_of}
-use Rattle.hv_play.specs.Steps.{Shows}
-use Rattle.hv_play.proofs.StepLemmas.{value_other, value_formless, value_heard}
+use Rattle.hv_play.specs.Script.{line_of_value, text_or_raw}
+use Rattle.hv_play.specs.Steps.{Shows, entries_by}
+use Rattle.hv_play.proofs.LineLemmas.{line_of_value-no_session, line_of_value-no_text}
+use Rattle.hv_play.proofs.StepLemmas.{value_bad, value_heard}
 use Rattle.hv_play.proofs.run.do_value.Goals as goal
 
-pub returns-then-not-is_object : goal.returns-then-not-is_object
-returns-then-not-is_object c =
-    subst (λ entry. Shows (duties_of c.args.number (line_of_value (Some (view c.args.value.now)))) c.args.session.now (entry ∷ []) c.args.session.now) (sym c.bad.ensures)
-    (value_other c.args.number (view c.args.value.now) c.args.session.now (sym c.if-not-is_object.ensures))
-
+-- no session is named
 pub returns-in_default : goal.returns-in_default
-returns-in_default c =
-    subst (λ entry. Shows (duties_of c.args.number (line_of_value (Some (view c.args.value.now)))) c.args.session.now (entry ∷ []) c.args.session.now) (sym c.bad-in_default.ensures)
-    (value_formless c.args.number (view c.args.value.now) c.args.session.now (sym c.if-not-is_object.ensures) (sym c.in_default.ensures.message))
+returns-in_default c = λ k.
+    let value = view c.args.value.now in
+    let talks = c.args.sessions.now in
+    subst (λ why. Shows (duties_of k (line_of_value (Some value))) talks (entries_by k (Bad why)) talks) (sym c.why_bad.ensures)
+    (value_bad k value talks (line_of_value-no_session value (sym c.in_default.ensures.session)))
 
-pub returns-in-Some-hear : goal.returns-in-Some-hear
-returns-in-Some-hear c =
-    value_heard c.args.number (view c.args.value.now) (view c.in-Some.message.now) c.args.session.now c.hear.new.session (c.in-Some-hear.reply ∷ [])
-    (sym c.if-not-is_object.ensures) (sym c.in-Some.ensures.message) c.in-Some-hear.ensures
+-- the session hears a message
+pub returns-in-Some-message_in_line : goal.returns-in-Some-message_in_line
+returns-in-Some-message_in_line c = λ k.
+    let value = view c.args.value.now in
+    let talks = c.args.sessions.now in
+    let s = c.in-Some.s in
+    let within : s < length talks = omega (arith, c.in-Some.ensures.within, c.requires.all) in
+    value_heard k s value (compact_text (view c.in-Some-message_in_line.message.now)) talks c.index-sessions-s.result c.hear_message.new.session (replies_of c.hear_message.result) within
+    (sym c.in-Some.ensures.session) (ap (text_or_raw value) (sym c.in-Some-message_in_line.ensures.message)) c.hear_message.ensures
 
+-- the session hears a text
+pub returns-in-Some-text_at : goal.returns-in-Some-text_at
+returns-in-Some-text_at c = λ k.
+    let value = view c.args.value.now in
+    let talks = c.args.sessions.now in
+    let s = c.in-Some.s in
+    let within : s < length talks = omega (arith, c.in-Some.ensures.within, c.requires.all) in
+    value_heard k s value c.in-Some-text_at.text.now talks c.index-sessions-s.result c.hear.new.self (replies_of c.hear.result) within
+    (sym c.in-Some.ensures.session) (ap (text_or_raw value) (sym c.in_default-message_in_line.ensures.message) ∙ sym c.in-Some-text_at.ensures) c.hear.ensures
+
+-- there is nothing to hear
 pub returns-in-None : goal.returns-in-None
-returns-in-None c =
-    value_heard c.args.number (view c.args.value.now) (view c.in-Some.message.now) c.args.session.now c.hear.new.session []
-    (sym c.if-not-is_object.ensures) (sym c.in-Some.ensures.message) c.in-None.ensures
+returns-in-None c = λ k.
+    let value = view c.args.value.now in
+    let talks = c.args.sessions.now in
+    let s = c.in-Some.s in
+    let none = ap (text_or_raw value) (sym c.in_default-message_in_line.ensures.message) ∙ sym c.in-None.ensures in
+    subst (Shows (duties_of k (line_of_value (Some value))) talks (entries_by k (Bad c.why_bad-in-None.result))) (sym (set-get_or talks s c.index-sessions-s.result))
+    (subst (λ why. Shows (duties_of k (line_of_value (Some value))) talks (entries_by k (Bad why)) talks) (sym c.why_bad-in-None.ensures)
+    (value_bad k value talks (line_of_value-no_text value s (sym c.in-Some.ensures.session) none)))

@@ -1,4 +1,6 @@
-use Rattle.std.proofs.Common.{◌≤◌, ◌∙◌, ap, Some, to_z-of_z}
+use Rattle.std.proofs.Common.{◌≤◌, ◌∙◌, ap, sym, Some, to_z-of_z}
+use Rattle.hv_value.specs.Civil.{text_of_day}
+use Rattle.hv_value.proofs.CivilLemmas.{text_is}
 use Rattle.hv_value.specs.Days.{day_of_text}
 use Rattle.hv_value.proofs.DayLemmas.{numbered-year, text-printed, text-reads}
 use Rattle.hv_value.proofs.day.date_text.Goals as goal
@@ -19,3 +21,12 @@ returns-clause-reads_back c =
     ap day_of_text c.text_of_date.ensures
     ∙ text-reads c.date_of-date.result c.year_of.result c.year_of.ensures some
     ∙ ap Some number
+
+-- and are the number's civil year, month and day
+pub returns-clause-value : goal.returns-clause-value
+returns-clause-value c =
+    let number = c.date_of-date.ensures ∙ to_z-of_z c.ranges.day in
+    let some : 1 ≤ c.year_of.result = numbered-year c.date_of-date.result c.args.day c.year_of.result number c.requires c.year_of.ensures in
+    c.text_of_date.ensures
+    ∙ sym (text_is c.date_of-date.result c.year_of.result c.year_of.ensures some)
+    ∙ ap text_of_day number

@@ -1,0 +1,14 @@
+pub mod CivilLemmas
+pub mod ContainsLemmas
+pub mod DepthLemmas
+pub mod FaultLemmas
+pub mod Folds
+pub mod IntTests
+pub mod LinearLemmas
+pub mod Nodes
+pub mod PartLemmas
+pub mod ReadyExprLemmas
+pub mod ReadyFolds
+pub mod ReadyLemmas
+pub mod RelationLemmas
+pub mod ValueKinds

@@ -1,0 +1,24 @@
+use Rattle.std.proofs.Common.{◌≡◌, length, true, rules}
+use Rattle.std.specs.List.{list_all}
+use Rattle.hv_expr.specs.declared.ready_pred.ReadyPred.{the_lemmas}
+use Rattle.hv_expr.specs.Ready.{is_pred_within}
+use Rattle.hv_expr.proofs.ReadyLemmas.{and-within, or-within, not-within}
+use Rattle.hv_expr.proofs.ready_pred.+decide.Goals as goal
+
+pub ReadyPred::decide-all_hold-requires : goal.ReadyPred::decide-all_hold-requires
+ReadyPred::decide-all_hold-requires g t c κs within =
+    let parts : list_all (is_pred_within (length (g.T.Table.columns c.args.table.now))) c.as_slice.result.now ≡ true =
+    rw (c.as_slice.ensures, ← and-within, ← c.in-And.is) c.requires.within in
+    search (rules, the_lemmas)
+
+pub ReadyPred::decide-one_holds-requires : goal.ReadyPred::decide-one_holds-requires
+ReadyPred::decide-one_holds-requires g t c κs within =
+    let parts : list_all (is_pred_within (length (g.T.Table.columns c.args.table.now))) c.as_slice-in-Or.result.now ≡ true =
+    rw (c.as_slice-in-Or.ensures, ← or-within, ← c.in-Or.is) c.requires.within in
+    search (rules, the_lemmas)
+
+pub ReadyPred::decide-decide-requires : goal.ReadyPred::decide-decide-requires
+ReadyPred::decide-decide-requires g t c κs within =
+    let of : is_pred_within (length (g.T.Table.columns c.args.table.now)) c.get.result.now ≡ true =
+    rw (c.get.ensures, ← not-within, ← c.in-Not.is) c.requires.within in
+    search (rules, the_lemmas)

@@ -1,0 +1,7 @@
+pub mod TextTests
+pub mod Sizes
+pub mod Checks
+pub mod Values
+pub mod Holds
+pub mod Ready
+pub mod Hashes

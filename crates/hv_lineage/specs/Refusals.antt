@@ -1,0 +1,50 @@
+-- Why terms are refused: this project's own rule. Where several reasons stand together the first in each definition is told.
+use Rattle.std.specs.Prelude.{ℕ, List, Bool, not, ◌||◌, nat_lt, Option, Some, None, option_map, is_some, if◌then◌else◌}
+use Rattle.std.specs.List.{list_all}
+use Rattle.hv_value.specs.declared.cell.Kind.{Kind}
+use Rattle.hv_value.specs.Schema.{Columns, column_place, is_schema}
+use Rattle.hv_expr.specs.declared.error.ExprErr.{ExprErr}
+use Rattle.hv_expr.specs.declared.error.ExprErr.TheVariants as fault
+use Rattle.hv_expr.specs.declared.expr.Expr.{Expr}
+use Rattle.hv_expr.specs.declared.pred.Pred.{Pred}
+use Rattle.hv_expr.specs.Checks.{expr_fault, pred_fault}
+use Rattle.hv_lineage.specs.declared.error.LineageErr.{LineageErr}
+use Rattle.hv_lineage.specs.declared.error.LineageErr.TheVariants as err
+use Rattle.hv_lineage.specs.declared.term.TheConstants.{MAX_TERM_DEPTH, MAX_TERM_NODES}
+use Rattle.hv_lineage.specs.Made.{picked, with_column}
+
+-- what is wrong with a predicate or an expression, as a refusal
+abbrev pub refusal_of_fault : ExprErr → LineageErr
+refusal_of_fault fault.NoColumn = err.NoColumn
+refusal_of_fault fault.WrongKind = err.WrongKind
+refusal_of_fault fault.TooDeep = err.TooDeep
+
+-- whether there is a column with a name
+abbrev pub has_column : Columns → List ℕ → Bool
+has_column columns name = is_some (column_place name columns)
+
+-- why a term of this depth and number of nodes is refused, none where it isn't
+abbrev pub deep_refusal : ℕ → ℕ → Option LineageErr
+deep_refusal depth size = if nat_lt MAX_TERM_DEPTH depth || nat_lt MAX_TERM_NODES size then Some err.Deep else None
+
+-- why a choice of columns by their names is refused, none where it isn't
+abbrev pub choice_refusal : Columns → List (List ℕ) → Option LineageErr
+choice_refusal columns names =
+    if not (list_all (has_column columns) names) then Some err.NoColumn
+    else if not (is_schema (picked columns names)) then Some err.BadSchema
+    else None
+
+-- why a further column of a name and a kind is refused beside the columns, none where it isn't
+abbrev pub name_refusal : Columns → List ℕ → Option Kind → Option LineageErr
+name_refusal columns name k =
+    if has_column columns name then Some err.NameClash
+    else if not (is_schema (with_column columns name k)) then Some err.BadSchema
+    else None
+
+-- why a predicate is refused over the columns, none where it isn't
+abbrev pub pred_refusal : Columns → Pred → Option LineageErr
+pred_refusal columns pred = option_map refusal_of_fault (pred_fault columns pred)
+
+-- why an expression is
+abbrev pub expr_refusal : Columns → Expr → Option LineageErr
+expr_refusal columns expr = option_map refusal_of_fault (expr_fault columns expr)

@@ -1,0 +1,3 @@
+pub mod BaseSteps
+pub mod ColumnSteps
+pub mod RowSteps

@@ -1,0 +1,38 @@
+//! The rows of a table of which a predicate holds.
+
+ghost use Rattle.std.specs.Prelude.{◌≡◌, IfOk};
+ghost use Rattle.hv_made.specs.Steps.{passing, with_rows};
+
+use hv_expr::{Pred, ReadyPred};
+use hv_member::Member;
+use hv_part::PartTable;
+use hv_value::{Mem, Table};
+use std::alloc::Global;
+
+/// The numbers of the rows of which a predicate holds, rising.
+fn passing_rows(alloc: Global, table: &PartTable, pred: &Pred) -> Mem<Vec<u32>>
+    ensures { IfOk result (λ rows. rows.items ≡ passing pred.now table.now) }
+{
+    let ready = ReadyPred::of(alloc, pred, table.schema())?;
+    let mut passing = Vec::new(alloc);
+    let mut from = 0;
+    while let Some(row) = table.member().next(from) {
+        if ready.eval(alloc, table, row)? {
+            passing.push(row)?;
+        }
+        from = row + 1;
+    }
+    Ok(passing)
+}
+
+/// Keeps the rows of which a predicate holds, with their numbers.
+pub(crate) fn filtered(alloc: Global, table: PartTable, pred: &Pred) -> Mem<PartTable>
+    ensures { IfOk result (λ made. made ≡ with_rows table (passing pred.now table)) }
+{
+    let rows = passing_rows(alloc, &table, pred)?;
+    let part = table.part();
+    let height = table.height();
+    let (schema, cols, _) = table.into_parts();
+    let member = Member::from_rows(height, rows)?;
+    Ok(PartTable::new(schema, part, cols, member))
+}

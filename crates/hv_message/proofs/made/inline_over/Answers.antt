@@ -1,0 +1,7 @@
+use Rattle.std.proofs.Common.{◌≡◌, true, sym, subst}
+use Rattle.hv_message.specs.Tables.{are_parts}
+use Rattle.hv_message.proofs.TableLemmas.{inline_fits}
+use Rattle.hv_message.proofs.made.inline_over.Goals as goal
+
+pub base-requires : goal.base-requires
+base-requires c = inline_fits c.in_ok-schema.schema c.from_vec-parts.result (subst (λ parts. are_parts parts ≡ true) (sym c.from_vec-parts.ensures) c.requires)

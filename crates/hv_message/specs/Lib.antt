@@ -1,0 +1,9 @@
+pub mod Fields
+pub mod Flaws
+pub mod Constants
+pub mod Trees
+pub mod Tables
+pub mod Views
+pub mod Messages
+pub mod LineageTexts
+pub mod Meant

@@ -1,0 +1,33 @@
+//! Messages: what a text that a client sends means, or the one word that says why it is malformed.
+#![tactic(auto)]
+
+mod constants;
+mod exprs;
+mod fields;
+mod flaw;
+mod limits;
+mod lineages;
+mod made;
+mod message;
+mod operations;
+mod preds;
+mod read;
+mod refused;
+mod state;
+mod tables;
+mod views;
+mod why;
+
+pub use flaw::Flaw;
+pub(crate) use limits::LEVELS;
+pub use limits::{
+    MAX_CONSTANT_BYTES, MAX_DISTINCT, MAX_ID, MAX_MESSAGE_BYTES, MAX_NODES, MAX_OBJECTS, MAX_OPEN,
+};
+pub use lineages::{read_lineage, read_lineage_value};
+pub use message::{Message, Refusal};
+pub use read::{id_in, read_message, read_value};
+pub use state::TalkState;
+pub use why::Why;
+
+#[cfg(test)]
+mod tests;

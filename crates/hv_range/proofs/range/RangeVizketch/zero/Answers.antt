@@ -1,5 +1,0 @@
-use Rattle.hv_range.proofs.RangeFacts.{IsRange-none}
-use Rattle.hv_range.proofs.range.RangeVizketch.zero.Goals as goal
-
-pub returns : goal.returns
-returns c = IsRange-none _ _ c.empty.ensures

@@ -1,0 +1,11 @@
+pub mod TermFolds
+pub mod ColumnLemmas
+pub mod PartLemmas
+pub mod FloatLemmas
+pub mod DayBack
+pub mod ExprBack
+pub mod PredBack
+pub mod BaseBack
+pub mod TermBack
+pub mod LineageBack
+pub mod DepthLemmas

@@ -1,0 +1,4 @@
+pub mod Values
+pub mod Lineages
+pub mod Replies
+pub mod ReadBack

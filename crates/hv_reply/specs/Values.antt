@@ -1,0 +1,44 @@
+-- Cells and the values of views as JSON: this project's own rule, over serde_json's words for JSON data. Keys are in byte order.
+use Rattle.std.specs.Prelude.{ℕ, ℤ, List, map, Option, Some, None, codes}
+use Rattle.std.specs.Fmt.{signed_decimal}
+use Rattle.serde_json.specs.Data.{Data, null, boolean, number, string, array, object, member, no_members, unsigned}
+use Rattle.serde_json.specs.Find.{of_integer}
+use Rattle.serde_json.specs.View.{items_of}
+use Rattle.hv_value.specs.Civil.{text_of_day}
+use Rattle.hv_value.specs.declared.cell.Cell.{Cell}
+use Rattle.hv_value.specs.declared.cell.Cell.TheVariants as cell
+use Rattle.hv_view.specs.declared.shown.Shown.{Shown}
+use Rattle.hv_view.specs.declared.shown.Shown.TheVariants as shown
+
+abbrev pub whole : ℕ → Data
+whole n = number (unsigned n)
+
+-- a number, or null where there is none
+abbrev pub whole_or_null : Option ℕ → Data
+whole_or_null None = null
+whole_or_null (Some n) = whole n
+
+abbrev pub list_of : List Data → Data
+list_of values = array (items_of values)
+
+-- a cell: null, a number, a date's text, or a text
+abbrev pub cell_data : Cell → Data
+cell_data cell.Missing = null
+cell_data (cell.Int n) = number (of_integer n)
+cell_data (cell.Date day) = string (text_of_day day)
+cell_data (cell.Text text) = string text
+
+-- a sum is a text, since it may be wider than 64 bits, and null where there is none
+abbrev pub sum_data : Option ℤ → Data
+sum_data None = null
+sum_data (Some sum) = string (signed_decimal sum)
+
+-- the value of a view
+abbrev pub shown_data : Shown → Data
+shown_data (shown.Range count greatest least missing sum) = object (member (codes "count") (whole count)
+    (member (codes "max") (cell_data greatest)
+    (member (codes "min") (cell_data least)
+    (member (codes "missing") (whole missing)
+    (member (codes "sum") (sum_data sum) no_members)))))
+shown_data (shown.Distinct more values) = object (member (codes "more") (boolean more)
+    (member (codes "values") (list_of (map cell_data values)) no_members))

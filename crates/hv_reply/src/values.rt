@@ -1,0 +1,153 @@
+//! Cells and the values of views as JSON. What each is is said in specs/Values.antt.
+
+ghost use Rattle.std.specs.Prelude.{◌≡◌, true, map, codes, string_bytes, IfOk};
+ghost use Rattle.std.specs.Fmt.{signed_decimal};
+ghost use Rattle.serde_json.specs.Data.{boolean, number, string, object, member, no_members};
+ghost use Rattle.serde_json.specs.Find.{of_integer};
+ghost use Rattle.serde_json.specs.View.{view};
+ghost use Rattle.hv_value.specs.Civil.{text_of_day};
+ghost use Rattle.hv_value.specs.Days.{is_day_number};
+ghost use Rattle.hv_view.specs.declared.shown.Shown.TheVariants as shown;
+ghost use Rattle.hv_reply.specs.Values.{cell_data, list_of, shown_data, sum_data, whole, whole_or_null};
+
+use hv_value::{Cell, Mem, Memory, date_text};
+use hv_view::Shown;
+use serde_json::{Value, json};
+use std::alloc::{AllocError, Global};
+
+/// The day number of 0001-01-01, the first that has a text.
+const FIRST_DAY: i32 = -719_162;
+
+/// The day number of 9999-12-31, the last that has a text.
+const LAST_DAY: i32 = 2_932_896;
+
+fn is_day_number(day: i32) -> bool
+    ensures { result ≡ is_day_number day }
+{
+    FIRST_DAY <= day && day <= LAST_DAY
+}
+
+/// A whole number of JSON: of 64 bits, with a sign or without. A wider one is answered by want of memory; no number of
+/// a message or of a lineage is.
+pub(crate) fn integer_value(n: i128) -> Mem<Value>
+    ensures { IfOk result (λ value. view value ≡ number (of_integer n)) }
+{
+    if let Ok(n) = u64::try_from(n) {
+        return Ok(Value::from(n));
+    }
+    match i64::try_from(n) {
+        Ok(n) => Ok(Value::from(n)),
+        Err(_) => Err(Memory),
+    }
+}
+
+/// A number, or null where there is none.
+pub(crate) fn whole_or_null(n: Option<u64>) -> Value
+    ensures { view result ≡ whole_or_null n }
+{
+    Value::from(n)
+}
+
+/// The text of a day. A number that is none of the years 1 to 9999 has no text and is answered by want of memory; no
+/// cell of a table or of a message is such.
+fn day_value(alloc: Global, day: i32) -> Mem<Value>
+    ensures { IfOk result (λ value. view value ≡ string (text_of_day day)) }
+{
+    if is_day_number(day) {
+        ascii_value(alloc, &date_text(day))
+    } else {
+        Err(Memory)
+    }
+}
+
+/// A text that is given as its bytes, which are UTF-8.
+fn ascii_value(alloc: Global, bytes: &[u8]) -> Mem<Value>
+    ensures { IfOk result (λ value. view value ≡ string bytes.now) }
+{
+    match std::str::from_utf8(bytes) {
+        Ok(text) => Ok(Value::try_from_str(alloc, text)?),
+        Err(_) => Err(Memory),
+    }
+}
+
+/// A cell: null, a number, a date's text, or a text.
+pub(crate) fn cell_value(alloc: Global, cell: &Cell) -> Mem<Value>
+    ensures { IfOk result (λ value. view value ≡ cell_data cell.now) }
+{
+    match cell {
+        Cell::Missing => Ok(Value::Null),
+        Cell::Int(n) => Ok(Value::from(*n)),
+        Cell::Date(day) => day_value(alloc, *day),
+        Cell::Text(text) => Ok(Value::try_from_str(alloc, text.as_str())?),
+    }
+}
+
+pub(crate) fn cells_value(alloc: Global, cells: &[Cell]) -> Mem<Value>
+    ensures { IfOk result (λ value. view value ≡ list_of (map cell_data cells.now)) }
+{
+    let mut list = Vec::with_capacity(alloc, cells.len())?;
+    for cell in cells {
+        list.push(cell_value(alloc, cell)?)?;
+    }
+    Ok(Value::Array(list))
+}
+
+/// A sum's digits, or null where there is none.
+fn sum_value(alloc: Global, sum: Option<i128>) -> Mem<Value>
+    ensures { IfOk result (λ value. view value ≡ sum_data sum) }
+{
+    match sum {
+        Some(sum) => Ok(Value::String(format!(in alloc; "{sum}")?)),
+        None => Ok(Value::Null),
+    }
+}
+
+/// The value of a view.
+pub fn shown_value(alloc: Global, shown: &Shown) -> Mem<Value>
+    ensures { IfOk result (λ value. view value ≡ shown_data shown.now) }
+{
+    match shown {
+        Shown::Range {
+            count,
+            max,
+            min,
+            missing,
+            sum,
+        } => {
+            let greatest = cell_value(alloc, max)?;
+            let least = cell_value(alloc, min)?;
+            let sum = sum_value(alloc, *sum)?;
+            Ok(range_value(alloc, *count, greatest, least, *missing, sum)?)
+        }
+        Shown::Distinct { more, values } => {
+            let values = cells_value(alloc, values.as_slice())?;
+            Ok(distinct_value(alloc, *more, values)?)
+        }
+    }
+}
+
+fn range_value(
+    alloc: Global,
+    count: u64,
+    greatest: Value,
+    least: Value,
+    missing: u64,
+    sum: Value,
+) -> Result<Value, AllocError>
+    ensures { IfOk result
+        (λ value. view value ≡ object (member (codes "count") (whole count)
+        (member (codes "max") (view greatest)
+        (member (codes "min") (view least)
+        (member (codes "missing") (whole missing)
+        (member (codes "sum") (view sum) no_members)))))) }
+{
+    json!(in alloc; {"count": count, "max": greatest, "min": least, "missing": missing, "sum": sum})
+}
+
+fn distinct_value(alloc: Global, more: bool, values: Value) -> Result<Value, AllocError>
+    ensures { IfOk result
+        (λ value. view value ≡ object (member (codes "more") (boolean more)
+        (member (codes "values") (view values) no_members))) }
+{
+    json!(in alloc; {"more": more, "values": values})
+}

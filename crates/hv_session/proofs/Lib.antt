@@ -1,0 +1,4 @@
+pub mod TalkLemmas
+pub mod SessionLemmas
+pub mod PartLemmas
+pub mod FirstLemmas

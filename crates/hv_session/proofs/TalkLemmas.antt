@@ -1,0 +1,93 @@
+-- What a session owes after a text, and that it was paid.
+use Rattle.std.proofs.Common.{◌≡◌, ◌∙◌, sym, refl, ap, subst, ℕ, ◌<◌, ◌≤◌, List, [], ◌∷◌, ◌++◌, length, Bool, true, false, Option, Some, None, Err, inl, inr}
+use Rattle.std.proofs.lemmas.Bool.{le-leb, lt-leb}
+use Rattle.std.specs.Prelude.{◌⊎◌, nat_le, if◌then◌else◌, option_and_then}
+use Rattle.serde_json.specs.Data.{Data}
+use Rattle.serde_json.specs.Read.{read}
+use Rattle.hv_value.specs.Catalog.{Tables}
+use Rattle.hv_lineage.specs.Lineages.{TermOver}
+use Rattle.hv_message.specs.declared.limits.TheConstants.{MAX_MESSAGE_BYTES}
+use Rattle.hv_message.specs.declared.message.Message.{Message}
+use Rattle.hv_message.specs.declared.why.Why.{Why}
+use Rattle.hv_message.specs.declared.why.Why.TheVariants as why
+use Rattle.hv_message.specs.Meant.{IsReading, id_of, message_meant}
+use Rattle.hv_message.specs.declared.message.Refusal.{Refusal}
+use Rattle.hv_message.specs.declared.message.Refusal.TheVariants as refusal
+use Rattle.hv_message.specs.Messages.{Known, Meaning, tells, cancels, ends, Reading, means, malformed, reading, reading_of_object, as_object_value, object_of, id_in, id_of_text}
+use Rattle.hv_reply.specs.declared.reply.Reply.{Reply}
+use Rattle.hv_reply.specs.declared.reply.Reply.TheVariants as reply
+use Rattle.hv_session.specs.Held.{Serves, refusal_reply}
+use Rattle.hv_session.specs.Talk.{Talk, answers, ending, Pays, Replies, served, refused, after_meaning, after_reading, closed, known}
+
+-- a session that owes nothing, as it is
+none_due : (talk : Talk) → talk.due ≡ [] → talk ≡ record talk { due = [] }
+none_due talk e = ap (λ dues. record talk { due = dues }) e
+
+pub pays_one : (talk : Talk) (r : Reply) → talk.due ≡ [] → Pays (record talk { due = answers r ∷ [] }) (r ∷ []) talk
+pays_one talk r e = (answers r, [], refl, refl, (refl, none_due talk e))
+
+pub pays_end : (talk : Talk) (id : ℕ) → talk.due ≡ [] → Pays (after_meaning talk (ends id)) [] (record talk { ended = true })
+pays_end talk id e = (e, refl)
+
+pub pays_cancel : (talk : Talk) (id request : ℕ) → talk.due ≡ []
+    → Pays (after_meaning talk (cancels id request)) (reply.Cancelled request ∷ reply.Done id ∷ []) (record talk { requests = closed request talk.requests })
+pays_cancel talk id request e = (
+  ending request,
+  answers (reply.Done id) ∷ [],
+  refl,
+  refl,
+  (answers (reply.Done id), [], refl, refl, (refl, ap (λ dues. record talk { requests = closed request talk.requests; due = dues }) e)),
+)
+
+-- ---- a text is heard
+
+pub replies_refused : (tables : Tables) (talk : Talk) (text : List ℕ) (id : Option ℕ) → talk.due ≡ [] → (id ≡ None) ⊎ (id ≡ id_of_text text)
+    → Replies tables talk text (reply.NoMem id ∷ []) talk
+replies_refused tables talk text id e whose = record {
+  owing = record talk { due = answers (reply.NoMem id) ∷ [] };
+  hears = record { nothing_due = e; how = refused id; is_hearing = whose; next_is = refl };
+  pays = pays_one talk (reply.NoMem id) e;
+}
+
+pub replies_malformed : (tables : Tables) (talk : Talk) (text : List ℕ) (w : Why) (id : Option ℕ) → talk.due ≡ [] → reading (known tables talk) text ≡ malformed w id
+    → Replies tables talk text (reply.Malformed id w ∷ []) talk
+replies_malformed tables talk text w id e is = record {
+  owing = record talk { due = answers (reply.Malformed id w) ∷ [] };
+  hears = record { nothing_due = e; how = served; is_hearing = tt; next_is = sym (ap (after_reading talk) is) };
+  pays = pays_one talk (reply.Malformed id w) e;
+}
+
+pub replies_served : (tables : Tables) (talk next : Talk) (text : List ℕ) (message : Message) (replies : List Reply) → talk.due ≡ []
+    → reading (known tables talk) text ≡ means (message_meant message) → id_of_text text ≡ Some (id_of message)
+    → Serves talk message replies next → Replies tables talk text replies next
+replies_served tables talk next text message replies e is own (inl pays) = record {
+  owing = after_meaning talk (message_meant message);
+  hears = record { nothing_due = e; how = served; is_hearing = tt; next_is = sym (ap (after_reading talk) is) };
+  pays = pays;
+}
+replies_served tables talk next text message replies e is own (inr h) =
+    subst (λ rs. Replies tables talk text rs next) (sym h.0)
+    (subst (λ t. Replies tables talk text (reply.NoMem (Some (id_of message)) ∷ []) t) (sym h.1)
+    (replies_refused tables talk text (Some (id_of message)) e (inr (sym own))))
+
+-- a text that gave no message
+pub replies_refusal : (tables : Tables) (talk : Talk) (text : List ℕ) (k : Known) (refusal : Refusal) → talk.due ≡ [] → known tables talk ≡ k
+    → IsReading k (Err refusal) (id_of_text text) (reading k text) → Replies tables talk text (refusal_reply refusal ∷ []) talk
+replies_refusal tables talk text k (refusal.Malformed why id) e same is = replies_malformed tables talk text why id e (ap (λ x. reading x text) same ∙ is)
+replies_refusal tables talk text k (refusal.Memory id) e same is = replies_refused tables talk text id e is
+
+-- ---- what a text is
+
+-- a text over the limit
+pub reading-long : (k : Known) (text : List ℕ) → MAX_MESSAGE_BYTES < length text → reading k text ≡ malformed why.Size None
+unfolding reading
+reading-long k text long = rw (lt-leb (length text) MAX_MESSAGE_BYTES long) refl
+
+-- another one means what its value does
+pub reading-value : (k : Known) (text : List ℕ) (value : Data) → length text ≤ MAX_MESSAGE_BYTES → read text ≡ Some value
+    → reading k text ≡ reading_of_object k (as_object_value value)
+unfolding reading
+reading-value k text value short is = rw (le-leb (length text) MAX_MESSAGE_BYTES short) (ap (λ v. reading_of_object k (option_and_then as_object_value v)) is)
+
+pub id-value : (text : List ℕ) (value : Data) → read text ≡ Some value → id_of_text text ≡ option_and_then id_in (as_object_value value)
+id-value text value is = ap (λ v. option_and_then id_in (option_and_then as_object_value v)) is

@@ -1,0 +1,13 @@
+//! One session: what it hears, what it owes, and its open requests.
+#![tactic(auto)]
+
+mod answer;
+mod answers;
+mod request;
+mod session;
+#[cfg(test)]
+mod tests;
+
+pub use answer::Answer;
+pub use request::OpenRequest;
+pub use session::Session;

@@ -1,0 +1,12 @@
+//! Open requests.
+
+use hv_lineage::{Lineage, Shared};
+use hv_view::AnyView;
+
+/// A request for a view of an object, by the id of the message that opened it.
+#[derive(Drop)]
+pub struct OpenRequest {
+    pub id: u64,
+    pub of: Shared<Lineage>,
+    pub view: AnyView,
+}

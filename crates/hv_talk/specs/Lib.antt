@@ -1,4 +1,0 @@
-pub mod Inline
-pub mod Messages
-pub mod Talk
-pub mod Texts

@@ -1,0 +1,18 @@
+-- The laws of any view, by those of its variants.
+use Rattle.std.proofs.Common.{List, ◌++◌, ◌∙◌}
+use Rattle.hv_value.specs.Rows.{Row}
+use Rattle.hv_range.specs.DistinctLaws.{distinct_of-swap}
+use Rattle.hv_range.specs.RangeLaws.{IsRange-swap}
+use Rattle.hv_view.specs.declared.any_view.AnyView.{AnyView}
+use Rattle.hv_view.specs.declared.any_view.AnyView.TheVariants as view
+use Rattle.hv_view.specs.declared.any_summary.AnySummary.{AnySummary}
+use Rattle.hv_view.specs.declared.any_summary.AnySummary.TheVariants as summary
+use Rattle.hv_view.specs.Stands.{StandsForAny}
+
+-- two blocks at the end may change places
+pub StandsForAny-swap : (v : AnyView) (a b c : List Row) (s : AnySummary) → StandsForAny v (a ++ b ++ c) s → StandsForAny v (a ++ c ++ b) s
+unfolding StandsForAny
+StandsForAny-swap (view.Range range) a b c (summary.Range s) h = IsRange-swap range.kind range.col a b c s h
+StandsForAny-swap (view.Range range) a b c (summary.Distinct s) h = h
+StandsForAny-swap (view.Distinct distinct) a b c (summary.Range s) h = h
+StandsForAny-swap (view.Distinct distinct) a b c (summary.Distinct s) h = h ∙ distinct_of-swap distinct.col distinct.k a b c

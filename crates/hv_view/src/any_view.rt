@@ -1,0 +1,83 @@
+//! Any view, itself a vizketch: a call is that of the variant.
+
+ghost use Rattle.std.specs.Prelude.{◌≡◌, IfOk};
+
+use crate::AnySummary;
+use hv_range::{Distinct, Range};
+use hv_sketch::Vizketch;
+use hv_value::{Mem, Schema, Table};
+use std::alloc::Global;
+
+/// A view, one variant a vizketch.
+#[derive(Debug, PartialEq, Eq, Hash, Drop)]
+pub enum AnyView {
+    Range(Range),
+    Distinct(Distinct),
+}
+
+impl AnyView {
+    /// An equal view.
+    pub fn copied(&self, _alloc: Global) -> Mem<AnyView>
+        ensures { IfOk result (λ view. view ≡ self.now) }
+    {
+        Ok(match self {
+            AnyView::Range(view) => AnyView::Range(*view),
+            AnyView::Distinct(view) => AnyView::Distinct(*view),
+        })
+    }
+}
+
+impl Vizketch for AnyView {
+    ghost use Rattle.hv_view.specs.AnyLaws.{StandsForAny-swap};
+    ghost use Rattle.hv_view.specs.Stands.{FitsAny, MergesAlways, StandsForAny};
+
+    type Summary = AnySummary;
+
+    ghost stands = { StandsForAny };
+
+    ghost fits_columns = { FitsAny };
+
+    ghost merges_always = { MergesAlways };
+
+    fn fits(&self, schema: &Schema) -> bool {
+        match self {
+            AnyView::Range(view) => view.fits(schema),
+            AnyView::Distinct(view) => view.fits(schema),
+        }
+    }
+
+    #[tactic(auto, unfolding(crate::specs::Stands::StandsForAny))]
+    fn zero(&self, alloc: Global) -> Mem<AnySummary> {
+        Ok(match self {
+            AnyView::Range(view) => AnySummary::Range(view.zero(alloc)?),
+            AnyView::Distinct(view) => AnySummary::Distinct(view.zero(alloc)?),
+        })
+    }
+
+    #[tactic(auto, unfolding(crate::specs::Stands::StandsForAny))]
+    fn summarize<T: Table>(&self, alloc: Global, table: &T) -> Mem<AnySummary> {
+        Ok(match self {
+            AnyView::Range(view) => AnySummary::Range(view.summarize(alloc, table)?),
+            AnyView::Distinct(view) => AnySummary::Distinct(view.summarize(alloc, table)?),
+        })
+    }
+
+    #[tactic(auto, unfolding(crate::specs::Stands::StandsForAny))]
+    fn merge_into(&self, alloc: Global, acc: &mut AnySummary, d: &AnySummary) -> Mem<()> {
+        match (self, acc, d) {
+            (AnyView::Range(view), AnySummary::Range(acc), AnySummary::Range(d)) => {
+                view.merge_into(alloc, acc, d)
+            }
+            (AnyView::Distinct(view), AnySummary::Distinct(acc), AnySummary::Distinct(d)) => {
+                view.merge_into(alloc, acc, d)
+            }
+            _ => unreachable!(),
+        }
+    }
+
+    fn copy(&self, alloc: Global, s: &AnySummary) -> Mem<AnySummary> {
+        s.copy(alloc)
+    }
+
+    ghost any_order = { StandsForAny-swap };
+}

@@ -1,0 +1,12 @@
+//! Any view: one type for all views, one for their summaries, and one for the values that are shown.
+#![tactic(auto)]
+
+mod any_summary;
+mod any_view;
+mod shown;
+#[cfg(test)]
+mod tests;
+
+pub use any_summary::AnySummary;
+pub use any_view::AnyView;
+pub use shown::{Shown, finish};
