@@ -12,14 +12,16 @@ use std::alloc::Global;
 use std::hash::{DefaultHasher, Hash, Hasher};
 use std::test::Fail;
 
-/// A table of one row with the columns n (whole numbers), d (dates), t (texts) and m (whole numbers, its cell missing).
+/// A table of one row with the columns n (whole numbers), d (dates), t and u (texts) and m (whole numbers, its cell
+/// missing).
 #[derive(Drop)]
 struct OneRow {
     schema: Schema,
     n: i64,
     d: i32,
     t: Text,
-    ghost columns: { schema ≡ (codes "n", kind.Int) ∷ (codes "d", kind.Date) ∷ (codes "t", kind.Text) ∷ (codes "m", kind.Int) ∷ [] },
+    u: Text,
+    ghost columns: { schema ≡ (codes "n", kind.Int) ∷ (codes "d", kind.Date) ∷ (codes "t", kind.Text) ∷ (codes "u", kind.Text) ∷ (codes "m", kind.Int) ∷ [] },
     ghost is_day: { is_day_number d ≡ true },
 }
 
@@ -28,11 +30,11 @@ impl Table for OneRow {
     ghost use Rattle.hv_value.specs.declared.cell.Kind.TheVariants as kind;
     ghost use Rattle.hv_value.specs.declared.cell.Cell.TheVariants as cell;
 
-    ghost columns = { λ table. (codes "n", kind.Int) ∷ (codes "d", kind.Date) ∷ (codes "t", kind.Text) ∷ (codes "m", kind.Int) ∷ [] };
+    ghost columns = { λ table. (codes "n", kind.Int) ∷ (codes "d", kind.Date) ∷ (codes "t", kind.Text) ∷ (codes "u", kind.Text) ∷ (codes "m", kind.Int) ∷ [] };
 
     ghost part_number = { λ table. 0 };
 
-    ghost rows = { λ table. record { part = 0; number = 0; cells = cell.Int table.n ∷ cell.Date table.d ∷ cell.Text table.t ∷ cell.Missing ∷ [] } ∷ [] };
+    ghost rows = { λ table. record { part = 0; number = 0; cells = cell.Int table.n ∷ cell.Date table.d ∷ cell.Text table.t ∷ cell.Text table.u ∷ cell.Missing ∷ [] } ∷ [] };
 
     fn schema(&self) -> &Schema {
         &self.schema
@@ -51,19 +53,21 @@ impl Table for OneRow {
             0 => CellRef::Int(self.n),
             1 => CellRef::Date(self.d),
             2 => CellRef::Text(self.t.as_str()),
+            3 => CellRef::Text(self.u.as_str()),
             _ => CellRef::Missing,
         }
     }
 }
 
 fn schema_of(alloc: Global) -> Result<Schema, Fail>
-    ensures { IfOk result (λ schema. schema ≡ (codes "n", kind.Int) ∷ (codes "d", kind.Date) ∷ (codes "t", kind.Text) ∷ (codes "m", kind.Int) ∷ []) }
+    ensures { IfOk result (λ schema. schema ≡ (codes "n", kind.Int) ∷ (codes "d", kind.Date) ∷ (codes "t", kind.Text) ∷ (codes "u", kind.Text) ∷ (codes "m", kind.Int) ∷ []) }
 {
     let n = (Text::of(alloc, "n")?, Kind::Int);
     let d = (Text::of(alloc, "d")?, Kind::Date);
     let t = (Text::of(alloc, "t")?, Kind::Text);
+    let u = (Text::of(alloc, "u")?, Kind::Text);
     let m = (Text::of(alloc, "m")?, Kind::Int);
-    let columns = vec![in alloc; n, d, t, m]?;
+    let columns = vec![in alloc; n, d, t, u, m]?;
     Ok(Schema::new(columns)?)
 }
 
@@ -75,6 +79,7 @@ fn row_of(alloc: Global, n: i64, d: i32, t: &str) -> Result<OneRow, Fail>
         n,
         d,
         t: Text::of(alloc, t)?,
+        u: Text::of(alloc, "b")?,
     })
 }
 
@@ -343,8 +348,8 @@ fn a_line_past_64_bits_is_missing(rt: HostRuntime) -> Result<(), Fail> {
 fn texts_are_joined(rt: HostRuntime) -> Result<(), Fail> {
     let alloc = rt.alloc();
     let table = row_of(alloc, 1, 0, "a")?;
-    let e = join(alloc, col(alloc, "t")?, "-", col(alloc, "t")?)?;
-    assert_eq!(rt; value_of(alloc, &table, &e)?.lent(), CellRef::Text("a-a"));
+    let e = join(alloc, col(alloc, "t")?, "-", col(alloc, "u")?)?;
+    assert_eq!(rt; value_of(alloc, &table, &e)?.lent(), CellRef::Text("a-b"));
     let e = join(alloc, col(alloc, "t")?, "-", col(alloc, "m")?)?;
     assert_eq!(rt; value_of(alloc, &table, &e)?.lent(), CellRef::Missing);
     Ok(())

@@ -1,5 +1,5 @@
 -- Why terms are refused: this project's own rule. Where several reasons stand together the first in each definition is told.
-use Rattle.std.specs.Prelude.{ℕ, List, Bool, not, ◌||◌, nat_lt, Option, Some, None, option_map, is_some, if◌then◌else◌}
+use Rattle.std.specs.Prelude.{ℕ, List, Bool, not, ◌||◌, nat_lt, Option, Some, None, option_map, is_some, if◌then◌else◌, codes}
 use Rattle.std.specs.List.{list_all}
 use Rattle.hv_value.specs.declared.cell.Kind.{Kind}
 use Rattle.hv_value.specs.Schema.{Columns, column_place, is_schema}
@@ -12,6 +12,18 @@ use Rattle.hv_lineage.specs.declared.error.LineageErr.{LineageErr}
 use Rattle.hv_lineage.specs.declared.error.LineageErr.TheVariants as err
 use Rattle.hv_lineage.specs.declared.term.TheConstants.{MAX_TERM_DEPTH, MAX_TERM_NODES}
 use Rattle.hv_lineage.specs.Made.{picked, with_column}
+
+-- what is said of a refusal
+abbrev pub lineage_err_text : LineageErr → List ℕ
+lineage_err_text err.NoColumn = codes "a column isn't in the schema"
+lineage_err_text err.WrongKind = codes "a column, constant or operand has another kind"
+lineage_err_text err.TooDeep = codes "the predicate or expression is too deep"
+lineage_err_text err.BadSchema = codes "the columns make no schema"
+lineage_err_text err.NotSameBase = codes "the two sides have unequal bases"
+lineage_err_text err.NameClash = codes "a column with this name is there already"
+lineage_err_text err.SchemaDiffers = codes "the two sides have unequal schemas"
+lineage_err_text err.Deep = codes "the lineage is too deep or too large"
+lineage_err_text err.Memory = codes "out of memory"
 
 -- what is wrong with a predicate or an expression, as a refusal
 abbrev pub refusal_of_fault : ExprErr → LineageErr

@@ -1,6 +1,7 @@
 //! Why a lineage can't be made.
 
-ghost use Rattle.std.specs.Prelude.{◌≡◌};
+ghost use Rattle.std.specs.Prelude.{◌≡◌, Some};
+ghost use Rattle.hv_lineage.specs.Refusals.{lineage_err_text};
 ghost use Rattle.hv_lineage.specs.declared.error.LineageErr.TheVariants as err;
 
 use hv_expr::ExprErr;
@@ -32,6 +33,8 @@ pub enum LineageErr {
 }
 
 impl fmt::Display for LineageErr {
+    ghost output = { λ err. Some (lineage_err_text err) };
+
     fn fmt<W: fmt::Write>(&self, f: &mut fmt::Formatter<W>) -> fmt::Result {
         f.write_str(match self {
             LineageErr::NoColumn => "a column isn't in the schema",

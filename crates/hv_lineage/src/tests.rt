@@ -7,6 +7,7 @@ use hv_expr::{Expr, Pred};
 use hv_value::{Kind, Memory, Schema, Text};
 use sqlite_items::{Boxed, Items};
 use std::alloc::Global;
+use std::hash::{DefaultHasher, Hash, Hasher};
 use std::sync::Arc;
 
 /// A table of the whole numbers x and the texts t, in three partitions.
@@ -204,5 +205,33 @@ fn equal_bases_are_the_same(rt: HostRuntime) -> Result<(), LineageErr> {
     let inline = Lineage::base(alloc, Base::Inline { schema, parts })?;
     assert_eq!(rt; inline.parts(), 0);
     assert!(rt; !kept.same_base(&inline));
+    Ok(())
+}
+
+fn hash_of<T: Hash>(value: &T) -> u64 {
+    let mut hasher = DefaultHasher::new();
+    value.hash(&mut hasher);
+    hasher.finish()
+}
+
+/// The lengths of t under a name, over the rows with an x.
+fn lengths(alloc: Global, name: &str) -> Result<Arc<Lineage>, LineageErr> {
+    let kept = Lineage::filter(alloc, &named_base(alloc)?, missing(alloc, "x", 1)?)?;
+    Lineage::derive(alloc, &kept, Text::of(alloc, name)?, length_of(alloc, "t")?)
+}
+
+// Lineages that were made alike share nothing, and are equal all the same.
+#[test]
+fn lineages_made_alike_are_equal(rt: HostRuntime) -> Result<(), LineageErr> {
+    let alloc = rt.alloc();
+    let made = lengths(alloc, "n")?;
+    let again = lengths(alloc, "n")?;
+    assert!(rt; made == again);
+    assert!(rt; made.origin() == again.origin());
+    assert_eq!(rt; hash_of(&*made), hash_of(&*again));
+    assert_eq!(rt; hash_of(made.origin()), hash_of(again.origin()));
+    let other = lengths(alloc, "m")?;
+    assert!(rt; made != other);
+    assert!(rt; hash_of(&*made) != hash_of(&*other));
     Ok(())
 }

@@ -113,7 +113,7 @@ fn loads_are_refused_by_their_words(rt: HostRuntime) -> Result<(), Fail> {
             Some(Why::Schema),
         ),
         (
-            r#"{"id":1,"op":"load","table":{"named":{"schema":[["x","int"]],"table":"t"}}}"#,
+            r#"{"id":0,"op":"load","table":{"named":{"schema":[["x","int"]],"table":"t"}}}"#,
             None,
         ),
         (
@@ -220,8 +220,22 @@ fn filters_are_refused_by_their_words(rt: HostRuntime) -> Result<(), Fail> {
             "of {pred}"
         );
     }
-    let unknown = r#"{"id":1,"of":7,"op":"filter","pred":{"col":"q","p":"missing"}}"#;
-    assert_eq!(rt; word(rt.alloc(), unknown, &state)?, Some(Why::Object));
+    for (pred, want) in [
+        (r#"{"col":"q","p":"missing"}"#, Why::Object),
+        (
+            r#"{"col":"q","how":"ge","p":"cmp","to":9223372036854775808}"#,
+            Why::Limit,
+        ),
+    ] {
+        let text = format!(in rt.alloc();
+            "{{\"id\":1,\"of\":7,\"op\":\"filter\",\"pred\":{pred}}}"
+        )?;
+        assert_eq!(rt;
+            word(rt.alloc(), text.as_str(), &state)?,
+            Some(want),
+            "of {pred}"
+        );
+    }
     Ok(())
 }
 
@@ -330,23 +344,26 @@ fn nested(alloc: Global, count: u32, open: &str, inner: &str, close: &str) -> Re
     Ok(text)
 }
 
-/// A filter of object 0 by a predicate.
-fn filter_text(alloc: Global, pred: &str) -> Result<String, Fail> {
-    Ok(format!(in alloc; "{{\"id\":1,\"of\":0,\"op\":\"filter\",\"pred\":{pred}}}")?)
+/// A filter of an object by a predicate.
+fn filter_text(alloc: Global, of: u32, pred: &str) -> Result<String, Fail> {
+    Ok(format!(in alloc; "{{\"id\":1,\"of\":{of},\"op\":\"filter\",\"pred\":{pred}}}")?)
 }
 
 #[test]
 fn the_limits_of_trees_and_texts_are_told(rt: HostRuntime) -> Result<(), Fail> {
     let state = session(rt.alloc())?;
-    let missing = r#"{"col":"x","p":"missing"}"#;
-    for (depth, want) in [
-        (15, None),
-        (16, Some(Why::Deep)),
-        (63, Some(Why::Deep)),
-        (64, Some(Why::Limit)),
+    let there = r#"{"col":"x","p":"missing"}"#;
+    let absent = r#"{"col":"q","p":"missing"}"#;
+    for (missing, depth, want) in [
+        (there, 15, None),
+        (absent, 15, Some(Why::Column)),
+        (there, 16, Some(Why::Deep)),
+        (absent, 16, Some(Why::Deep)),
+        (there, 63, Some(Why::Deep)),
+        (there, 64, Some(Why::Limit)),
     ] {
         let pred = nested(rt.alloc(), depth, r#"{"of":"#, missing, r#","p":"not"}"#)?;
-        let text = filter_text(rt.alloc(), pred.as_str())?;
+        let text = filter_text(rt.alloc(), 0, pred.as_str())?;
         assert_eq!(rt;
             word(rt.alloc(), text.as_str(), &state)?,
             want,
@@ -359,7 +376,7 @@ fn the_limits_of_trees_and_texts_are_told(rt: HostRuntime) -> Result<(), Fail> {
         let pred = format!(in rt.alloc();
             "{{\"col\":\"t\",\"how\":\"eq\",\"p\":\"cmp\",\"to\":\"{constant}\"}}"
         )?;
-        let text = filter_text(rt.alloc(), pred.as_str())?;
+        let text = filter_text(rt.alloc(), 0, pred.as_str())?;
         assert_eq!(rt;
             word(rt.alloc(), text.as_str(), &state)?,
             want,
@@ -395,6 +412,11 @@ fn strange_texts_are_told_by_their_words(rt: HostRuntime) -> Result<(), Fail> {
             "after {spaces} spaces"
         );
     }
+    let unclosed = nested(rt.alloc(), 1_048_577, "{", "", "")?;
+    assert_eq!(rt;
+        word(rt.alloc(), unclosed.as_str(), &state)?,
+        Some(Why::Size)
+    );
     Ok(())
 }
 
@@ -434,5 +456,106 @@ fn a_full_session_refuses_more(rt: HostRuntime) -> Result<(), Fail> {
         word(rt.alloc(), r#"{"id":50,"op":"q"}"#, &state)?,
         Some(Why::Ended)
     );
+    Ok(())
+}
+
+/// Reads a message that makes an object, and adds the object, where it is read.
+fn make(alloc: Global, state: &mut TalkState, text: &str) -> Result<Option<Why>, Fail> {
+    match read_message(alloc, text, state) {
+        Ok(Message::Make { made, .. }) => {
+            state.add(made)?;
+            Ok(None)
+        }
+        Ok(_) => Err(Fail::new("another message was read")),
+        Err(Refusal::Malformed(why, _)) => Ok(Some(why)),
+        Err(Refusal::Memory(_)) => Err(Fail::new("memory was refused")),
+    }
+}
+
+/// A session with the objects 0 to 63: a base and 63 filters, each of the one before.
+fn deep_session(alloc: Global) -> Result<TalkState, Fail> {
+    let mut state = session(alloc)?;
+    for of in 0..63u32 {
+        let text = filter_text(alloc, of, r#"{"col":"x","p":"missing"}"#)?;
+        if make(alloc, &mut state, text.as_str())?.is_some() {
+            return Err(Fail::new("a filter is refused"));
+        }
+    }
+    Ok(state)
+}
+
+// A lineage of 64 levels takes no node more; each other reason comes before the depth.
+#[test]
+fn the_sixty_fourth_filter_is_refused(rt: HostRuntime) -> Result<(), Fail> {
+    let state = deep_session(rt.alloc())?;
+    for (asked, want) in [
+        (
+            r#""op":"filter","pred":{"col":"x","p":"missing"}"#,
+            Why::Depth,
+        ),
+        (
+            r#""op":"filter","pred":{"col":"q","p":"missing"}"#,
+            Why::Column,
+        ),
+        (r#""cols":["x"],"op":"project""#, Why::Depth),
+        (r#""cols":[],"op":"project""#, Why::Schema),
+        (
+            r#""expr":{"col":"x","e":"col"},"name":"n","op":"derive""#,
+            Why::Depth,
+        ),
+        (
+            r#""expr":{"col":"x","e":"col"},"name":"x","op":"derive""#,
+            Why::Clash,
+        ),
+    ]
+    .as_slice()
+    {
+        let text = format!(in rt.alloc(); "{{\"id\":1,\"of\":63,{asked}}}")?;
+        assert_eq!(rt;
+            word(rt.alloc(), text.as_str(), &state)?,
+            Some(*want),
+            "of {asked}"
+        );
+    }
+    Ok(())
+}
+
+// Of 4,096 objects; each other reason comes before want of room.
+#[test]
+fn the_next_object_of_a_full_session_is_refused(rt: HostRuntime) -> Result<(), Fail> {
+    let alloc = rt.alloc();
+    let mut state = deep_session(alloc)?;
+    let load = r#"{"id":1,"op":"load","table":{"inline":{"parts":[],"schema":[["x","int"]]}}}"#;
+    for number in 64..4_096u32 {
+        assert_eq!(rt; make(alloc, &mut state, load)?, None, "at {number}");
+    }
+    for (text, want) in [
+        (load, Some(Why::Full)),
+        (
+            r#"{"id":1,"op":"load","table":{"inline":{"parts":[],"schema":[]}}}"#,
+            Some(Why::Schema),
+        ),
+        (
+            r#"{"cols":["x"],"id":1,"of":4095,"op":"project"}"#,
+            Some(Why::Full),
+        ),
+        (
+            r#"{"cols":["q"],"id":1,"of":4095,"op":"project"}"#,
+            Some(Why::Column),
+        ),
+        (
+            r#"{"cols":["x"],"id":1,"of":63,"op":"project"}"#,
+            Some(Why::Depth),
+        ),
+        (
+            r#"{"cols":["x"],"id":1,"of":4096,"op":"project"}"#,
+            Some(Why::Object),
+        ),
+        (r#"{"id":1,"of":4095,"op":"info"}"#, None),
+    ]
+    .as_slice()
+    {
+        assert_eq!(rt; word(alloc, text, &state)?, *want, "of {text}");
+    }
     Ok(())
 }

@@ -1,5 +1,5 @@
 -- What is written to a sink, or read from a source, in several turns.
-use Rattle.std.specs.Prelude.{◌≡◌, ℕ, ◌<◌, List, ◌++◌, length, Option}
+use Rattle.std.specs.Prelude.{◌≡◌, ℕ, ◌<◌, ◌≤◌, List, ◌++◌, length, Option}
 use Rattle.std.specs.Io.KnownBytes.{Appends, Consumes}
 use Rattle.hv_outer.specs.declared.io_err.IoErr.{IoErr}
 use Rattle.hv_outer.specs.declared.io_err.IoErr.TheVariants.{Failed as IoFailed, Memory as IoMemory}
@@ -17,6 +17,12 @@ pub record AppendsFront (before now : Option (List ℕ)) (bytes : List ℕ) : Ty
 pub record ReadsSome (before now : Option (List ℕ)) : Type 0 where
   pub bytes : List ℕ
   pub read : Consumes before now bytes
+
+-- no more bytes than the limit were read
+pub record ReadsWithin (before now : Option (List ℕ)) (limit : ℕ) : Type 0 where
+  pub bytes : List ℕ
+  pub read : Consumes before now bytes
+  pub within : length bytes ≤ limit
 
 -- more bytes than the limit were read
 pub record ReadsPast (before now : Option (List ℕ)) (limit : ℕ) : Type 0 where

@@ -2,7 +2,7 @@
 ghost use Rattle.std.specs.Prelude.{◌≡◌, ◌^◌, ◌<◌, ◌≤◌, length, IfOk, OnOk, OnErr, IsErrOf};
 ghost use Rattle.std.specs.Io.KnownBytes.{Appends, Consumes, IsAtEnd};
 ghost use Rattle.hv_outer.specs.Causes.{HasCause, Rose};
-ghost use Rattle.hv_outer.specs.Turns.{AppendsFront, ReadsPast, ReadsSome};
+ghost use Rattle.hv_outer.specs.Turns.{AppendsFront, ReadsPast, ReadsSome, ReadsWithin};
 
 use crate::{IoErr, Sink, Source};
 use std::alloc::{AllocError, Global};
@@ -96,6 +96,8 @@ pub fn read_all<I: Source>(
         ReadsPast (I.left source.old) (I.left source.new) limit }
     ensures failed { IsErrOf result ReadAllErr.Failed →
         Rose (I.faults source.old) (I.faults source.new) }
+    ensures within { IsErrOf result ReadAllErr.Failed →
+        ReadsWithin (I.left source.old) (I.left source.new) limit }
     ensures later { I.faults source.old ≤ I.faults source.new }
     ensures err { OnErr result (ReadsSome (I.left source.old) (I.left source.new)) }
 {

@@ -206,24 +206,22 @@ fn shows_the_values_of_each_kind(rt: HostRuntime) -> Result<(), Fail> {
 fn a_view_of_another_form_is_told_why(rt: HostRuntime) -> Result<(), Fail> {
     let alloc = rt.alloc();
     let cases = [
-        ("\"kind\":\"distinct\"", "field"),
-        ("\"kind\":\"distinct\",\"k\":0", "limit"),
-        ("\"kind\":\"distinct\",\"k\":501", "limit"),
-        ("\"kind\":\"distinct\",\"k\":-1", "limit"),
-        ("\"kind\":\"distinct\",\"k\":\"2\"", "field"),
-        ("\"kind\":\"distinct\",\"k\":1,\"col\":\"d\"", "column"),
-        ("\"kind\":\"ranges\"", "field"),
+        (2, "\"kind\":\"distinct\"", "field"),
+        (3, "\"kind\":\"distinct\",\"k\":0", "limit"),
+        (4, "\"kind\":\"distinct\",\"k\":501", "limit"),
+        (5, "\"kind\":\"distinct\",\"k\":-1", "limit"),
+        (6, "\"kind\":\"distinct\",\"k\":\"2\"", "field"),
+        (7, "\"kind\":\"distinct\",\"k\":1,\"col\":\"d\"", "column"),
+        (8, "\"kind\":\"ranges\"", "field"),
     ];
     let mut views = Vec::new(alloc);
     let mut wanted = joined(alloc, [MADE].as_slice())?;
-    let mut line = 2u32;
-    for (view, why) in cases {
+    for (line, view, why) in cases {
         views.push(view)?;
         write!(
             wanted,
             "{{\"line\":{line},\"out\":{{\"error\":\"malformed\",\"id\":2,\"why\":\"{why}\"}},\"s\":0}}\n"
         )?;
-        line += 1;
     }
     views.push("\"kind\":\"distinct\",\"k\":500")?;
     let last =

@@ -3,7 +3,7 @@
 ghost use Rattle.std.specs.Prelude.{◌≡◌, ◌⊎◌, ◌↔◌, false};
 ghost use Rattle.std.specs.Io.KnownBytes.{Keeps};
 ghost use Rattle.hv_outer.specs.Causes.{Rose};
-ghost use Rattle.hv_outer.specs.Turns.{ReadsPast};
+ghost use Rattle.hv_outer.specs.Turns.{ReadsPast, ReadsWithin};
 ghost use Rattle.hv_play.specs.Outcome.{is_play, status_after, Traced};
 ghost use Rattle.hv_play.specs.Run.{whole, early};
 
@@ -64,6 +64,8 @@ pub fn play<I: Source, O: Sink>(alloc: Global, words: &[String], script: &mut I,
     ensures cut { result ≡ WRITE_FAULT → Traced early (I.left script.old) (I.left script.new) (O.taken out.old) (O.taken out.new) }
     ensures memory { result ≡ NO_MEMORY → Keeps (O.taken out.old) (O.taken out.new) ⊎ Traced early (I.left script.old) (I.left script.new) (O.taken out.old) (O.taken out.new) }
     ensures long { result ≡ TOO_LONG → ReadsPast (I.left script.old) (I.left script.new) MAX_SCRIPT_BYTES }
+    ensures within { result ≡ READ_FAULT → ReadsWithin (I.left script.old) (I.left script.new) MAX_SCRIPT_BYTES }
+    ensures unread { result ≡ USAGE → script.new ≡ script.old }
     ensures silent { (result ≡ USAGE) ⊎ (result ≡ READ_FAULT) ⊎ (result ≡ TOO_LONG) → Keeps (O.taken out.old) (O.taken out.new) }
     ensures status { (result ≡ DONE) ⊎ (result ≡ USAGE) ⊎ (result ≡ READ_FAULT) ⊎ (result ≡ WRITE_FAULT) ⊎ (result ≡ NO_MEMORY) ⊎ (result ≡ TOO_LONG) }
 {

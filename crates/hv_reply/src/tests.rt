@@ -9,9 +9,9 @@ use crate::{Reply, lineage_value, reply_value, write_lineage, write_reply};
 use hv_expr::{Expr, How, Pred, Rel, TextTest};
 use hv_lineage::{Base, Lineage, LineageErr, Shared};
 use hv_member::PartSet;
-use hv_message::Why;
+use hv_message::{Why, read_lineage};
 use hv_range::Values;
-use hv_value::{Cell, Kind, Memory, Schema, SchemaErr, Text};
+use hv_value::{Catalog, Cell, Kind, Memory, Schema, SchemaErr, Text};
 use hv_view::Shown;
 use sqlite_items::{Boxed, Items};
 use std::alloc::Global;
@@ -220,9 +220,8 @@ fn join(alloc: Global) -> Result<Expr, Fail>
     })
 }
 
-#[test]
-fn info_tells_each_field_of_its_lineage(rt: HostRuntime) -> Result<(), Fail> {
-    let alloc = rt.alloc();
+/// A lineage with a node of each kind.
+fn wide_lineage(alloc: Global) -> Result<Arc<Lineage>, Fail> {
     let base = loaded(alloc)?;
     let kept = Lineage::filter(alloc, &base, wide_pred(alloc)?)?;
     let mut cols = Vec::new(alloc);
@@ -230,14 +229,15 @@ fn info_tells_each_field_of_its_lineage(rt: HostRuntime) -> Result<(), Fail> {
     cols.push(Text::of(alloc, "d")?)?;
     let chosen = Lineage::project(alloc, &kept, cols)?;
     let longer = Lineage::derive(alloc, &chosen, Text::of(alloc, "y")?, linear(alloc)?)?;
-    let of = Lineage::derive(alloc, &longer, Text::of(alloc, "j")?, join(alloc)?)?;
-    let text = text_of_reply(
-        alloc,
-        &Reply::Info {
-            id: 9,
-            of: Shared::of(of),
-        },
-    )?;
+    let named = Text::of(alloc, "j")?;
+    Ok(Lineage::derive(alloc, &longer, named, join(alloc)?)?)
+}
+
+#[test]
+fn info_tells_each_field_of_its_lineage(rt: HostRuntime) -> Result<(), Fail> {
+    let alloc = rt.alloc();
+    let of = Shared::of(wide_lineage(alloc)?);
+    let text = text_of_reply(alloc, &Reply::Info { id: 9, of })?;
     assert_eq!(rt; text.as_str(), INFO);
     Ok(())
 }
@@ -245,15 +245,20 @@ fn info_tells_each_field_of_its_lineage(rt: HostRuntime) -> Result<(), Fail> {
 const INFO: &str =
     "{\"cols\":[[\"t\",\"text\"],[\"d\",\"date\"],[\"y\",\"int\"],[\"j\",\"text\"]],\"depth\":5,\"id\":9,\"lineage\":{\"base\":{\"inline\":{\"parts\":[\"x,d,t\\n1,2020-02-29,a\\n\",\"\"],\"schema\":[[\"x\",\"int\"],[\"d\",\"date\"],[\"t\",\"text\"]]}},\"term\":{\"expr\":{\"between\":\"-\",\"e\":\"join\",\"left\":{\"col\":\"t\",\"e\":\"col\"},\"right\":{\"col\":\"t\",\"e\":\"col\"}},\"name\":\"j\",\"of\":{\"expr\":{\"a\":18446744073709551615,\"b\":-9223372036854775808,\"e\":\"linear\",\"of\":{\"e\":\"year\",\"of\":{\"col\":\"d\",\"e\":\"col\"}}},\"name\":\"y\",\"of\":{\"cols\":[\"t\",\"d\"],\"of\":{\"of\":{\"t\":\"base\"},\"pred\":{\"of\":[{\"of\":[{\"col\":\"d\",\"how\":\"ge\",\"p\":\"cmp\",\"to\":\"2020-01-01\"},{\"col\":\"t\",\"fold\":true,\"how\":\"begins\",\"p\":\"text\",\"text\":\"A\"}],\"p\":\"or\"},{\"of\":{\"col\":\"x\",\"p\":\"missing\"},\"p\":\"not\"}],\"p\":\"and\"},\"t\":\"filter\"},\"t\":\"project\"},\"t\":\"derive\"},\"t\":\"derive\"}},\"size\":5}";
 
-#[test]
-fn a_text_is_written_after_what_is_there(rt: HostRuntime) -> Result<(), Fail> {
-    let alloc = rt.alloc();
+/// The named table of flights, in three partitions.
+fn flights(alloc: Global) -> Result<Arc<Lineage>, Fail> {
     let base = Base::Named {
         schema: columns(alloc)?,
         table: Text::of(alloc, "flights")?,
         parts: 3,
     };
-    let lineage = Lineage::base(alloc, base)?;
+    Ok(Lineage::base(alloc, base)?)
+}
+
+#[test]
+fn a_text_is_written_after_what_is_there(rt: HostRuntime) -> Result<(), Fail> {
+    let alloc = rt.alloc();
+    let lineage = flights(alloc)?;
     let mut out = Vec::from_slice(alloc, b"> ")?;
     write_lineage(alloc, &lineage, &mut out)?;
     assert_eq!(rt;
@@ -288,5 +293,22 @@ fn values_are_those_that_are_written(rt: HostRuntime) -> Result<(), Fail> {
     assert_eq!(rt; said.as_str(), "{\"done\":true,\"id\":1}");
     let lineage = lineage_value(alloc, &*loaded(alloc)?)?;
     assert!(rt; lineage.get("term").is_some());
+    Ok(())
+}
+
+#[test]
+fn a_lineage_reads_back_from_its_text(rt: HostRuntime) -> Result<(), Fail> {
+    let alloc = rt.alloc();
+    let tables = vec![in alloc; (Text::of(alloc, "flights")?, 3)]?;
+    let catalog = Catalog::new(tables);
+    for lineage in [loaded(alloc)?, flights(alloc)?, wide_lineage(alloc)?] {
+        let mut out = Vec::new(alloc);
+        write_lineage(alloc, &lineage, &mut out)?;
+        let text = String::from_utf8(out)?;
+        let Ok(again) = read_lineage(alloc, text.as_str(), &catalog) else {
+            return Err(Fail::new("it is refused"));
+        };
+        assert!(rt; again == lineage, "of {text}");
+    }
     Ok(())
 }
