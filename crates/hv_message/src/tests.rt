@@ -43,20 +43,16 @@ fn word(alloc: Global, text: &str, state: &TalkState) -> Result<Option<Why>, Fai
     }
 }
 
-// Of two faults the earlier check tells: each text has the fault of its word and, where one can stand, a later one.
+// Each word, of texts that a new session with one object refuses at the first checks.
 #[test]
-fn each_word_of_refusal_is_told_in_its_order(rt: HostRuntime) -> Result<(), Fail> {
+fn the_first_checks_are_those_of_all_messages(rt: HostRuntime) -> Result<(), Fail> {
     let state = session(rt.alloc())?;
     for (text, want) in [
-        ("{", Why::Json),
         ("[]", Why::Json),
         ("{}", Why::Id),
-        (r#"{"id":-1,"op":"q"}"#, Why::Id),
         (r#"{"id":-0,"op":"q"}"#, Why::Id),
         (r#"{"id":1.5,"op":"q"}"#, Why::Id),
         (r#"{"id":9007199254740992,"op":"q"}"#, Why::Id),
-        (r#"{"id":50,"op":"q"}"#, Why::Busy),
-        (r#"{"id":1,"op":"q"}"#, Why::Op),
         (r#"{"id":1}"#, Why::Op),
         (r#"{"id":1,"op":5}"#, Why::Op),
         (r#"{"id":1,"op":"info"}"#, Why::Field),
@@ -68,7 +64,6 @@ fn each_word_of_refusal_is_told_in_its_order(rt: HostRuntime) -> Result<(), Fail
             Why::Object,
         ),
         (r#"{"id":1,"op":"cancel"}"#, Why::Field),
-        (r#"{"id":1,"op":"cancel","request":51}"#, Why::Request),
         (r#"{"id":1,"op":"cancel","request":-50}"#, Why::Request),
     ]
     .as_slice()
@@ -412,11 +407,6 @@ fn strange_texts_are_told_by_their_words(rt: HostRuntime) -> Result<(), Fail> {
             "after {spaces} spaces"
         );
     }
-    let unclosed = nested(rt.alloc(), 1_048_577, "{", "", "")?;
-    assert_eq!(rt;
-        word(rt.alloc(), unclosed.as_str(), &state)?,
-        Some(Why::Size)
-    );
     Ok(())
 }
 
@@ -484,6 +474,98 @@ fn deep_session(alloc: Global) -> Result<TalkState, Fail> {
     Ok(state)
 }
 
+/// The same session with as many objects as there may be.
+fn full_session(alloc: Global) -> Result<TalkState, Fail> {
+    let mut state = deep_session(alloc)?;
+    for _ in 64..4_096u32 {
+        if make(alloc, &mut state, LOAD)?.is_some() {
+            return Err(Fail::new("a load is refused"));
+        }
+    }
+    Ok(state)
+}
+
+const LOAD: &str = r#"{"id":1,"op":"load","table":{"inline":{"parts":[],"schema":[["x","int"]]}}}"#;
+
+// Each word of refusal, in the order of the checks: but for the last each text has the fault of a later check too.
+#[test]
+fn each_word_of_refusal_is_told_in_its_order(rt: HostRuntime) -> Result<(), Fail> {
+    let alloc = rt.alloc();
+    let open = session(alloc)?;
+    let mut ended = session(alloc)?;
+    ended.end();
+    let full = full_session(alloc)?;
+    let unclosed = nested(alloc, 1_048_577, "{", "", "")?;
+    let absent = r#"{"col":"q","p":"missing"}"#;
+    let deep = nested(alloc, 16, r#"{"of":"#, absent, r#","p":"not"}"#)?;
+    let deep = filter_text(alloc, 0, deep.as_str())?;
+    for (state, text, want) in [
+        (&ended, unclosed.as_str(), Why::Size),
+        (&ended, r#"{"id":-1"#, Why::Json),
+        (&ended, r#"{"id":-1,"op":"q"}"#, Why::Id),
+        (&ended, r#"{"id":50,"op":"q"}"#, Why::Ended),
+        (&open, r#"{"id":50,"op":"q"}"#, Why::Busy),
+        (&open, r#"{"id":1,"op":"q"}"#, Why::Op),
+        (
+            &open,
+            r#"{"id":1,"of":7,"op":"filter","pred":{"of":[{"col":"x","how":"ge","p":"cmp","to":9223372036854775808},{}],"p":"and"}}"#,
+            Why::Field,
+        ),
+        (
+            &open,
+            r#"{"id":1,"of":7,"op":"filter","pred":{"col":"q","how":"ge","p":"cmp","to":9223372036854775808}}"#,
+            Why::Limit,
+        ),
+        (
+            &open,
+            r#"{"id":1,"of":7,"op":"filter","pred":{"col":"q","p":"missing"}}"#,
+            Why::Object,
+        ),
+        (
+            &open,
+            r#"{"id":1,"op":"cancel","request":51}"#,
+            Why::Request,
+        ),
+        (
+            &open,
+            r#"{"id":1,"op":"load","table":{"named":{"schema":[],"table":"u"}}}"#,
+            Why::Table,
+        ),
+        (
+            &full,
+            r#"{"id":1,"op":"load","table":{"inline":{"parts":[],"schema":[]}}}"#,
+            Why::Schema,
+        ),
+        (&open, deep.as_str(), Why::Deep),
+        (
+            &open,
+            r#"{"id":1,"of":0,"op":"filter","pred":{"col":"q","how":"ge","p":"cmp","to":null}}"#,
+            Why::Column,
+        ),
+        (
+            &open,
+            r#"{"expr":{"e":"year","of":{"e":"length","of":{"col":"q","e":"col"}}},"id":1,"name":"x","of":0,"op":"derive"}"#,
+            Why::Kind,
+        ),
+        (
+            &full,
+            r#"{"expr":{"col":"x","e":"col"},"id":1,"name":"x","of":63,"op":"derive"}"#,
+            Why::Clash,
+        ),
+        (
+            &full,
+            r#"{"id":1,"of":63,"op":"filter","pred":{"col":"x","p":"missing"}}"#,
+            Why::Depth,
+        ),
+        (&full, LOAD, Why::Full),
+    ]
+    .as_slice()
+    {
+        assert_eq!(rt; word(alloc, text, state)?, Some(*want), "of {want:?}");
+    }
+    Ok(())
+}
+
 // A lineage of 64 levels takes no node more; each other reason comes before the depth.
 #[test]
 fn the_sixty_fourth_filter_is_refused(rt: HostRuntime) -> Result<(), Fail> {
@@ -523,18 +605,8 @@ fn the_sixty_fourth_filter_is_refused(rt: HostRuntime) -> Result<(), Fail> {
 // Of 4,096 objects; each other reason comes before want of room.
 #[test]
 fn the_next_object_of_a_full_session_is_refused(rt: HostRuntime) -> Result<(), Fail> {
-    let alloc = rt.alloc();
-    let mut state = deep_session(alloc)?;
-    let load = r#"{"id":1,"op":"load","table":{"inline":{"parts":[],"schema":[["x","int"]]}}}"#;
-    for number in 64..4_096u32 {
-        assert_eq!(rt; make(alloc, &mut state, load)?, None, "at {number}");
-    }
+    let state = full_session(rt.alloc())?;
     for (text, want) in [
-        (load, Some(Why::Full)),
-        (
-            r#"{"id":1,"op":"load","table":{"inline":{"parts":[],"schema":[]}}}"#,
-            Some(Why::Schema),
-        ),
         (
             r#"{"cols":["x"],"id":1,"of":4095,"op":"project"}"#,
             Some(Why::Full),
@@ -555,7 +627,7 @@ fn the_next_object_of_a_full_session_is_refused(rt: HostRuntime) -> Result<(), F
     ]
     .as_slice()
     {
-        assert_eq!(rt; word(alloc, text, &state)?, *want, "of {text}");
+        assert_eq!(rt; word(rt.alloc(), text, &state)?, *want, "of {text}");
     }
     Ok(())
 }

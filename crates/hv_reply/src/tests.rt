@@ -2,8 +2,12 @@
 //! rule: compact JSON, keys in byte order, dates as YYYY-MM-DD, sums as texts.
 
 ghost use Rattle.std.specs.Prelude.{◌≡◌, true, IfOk};
+ghost use Rattle.std.specs.Arc.{arc_value};
+ghost use Rattle.hv_value.specs.Catalog.{Tables};
 ghost use Rattle.hv_expr.specs.Checks.{has_fit_factors};
+ghost use Rattle.hv_reply.specs.ReadBack.{IsGiven};
 
+use crate::laws::read_back;
 use crate::values::{cells_value, shown_value};
 use crate::{Reply, lineage_value, reply_value, write_lineage, write_reply};
 use hv_expr::{Expr, How, Pred, Rel, TextTest};
@@ -160,7 +164,10 @@ fn columns(alloc: Global) -> Result<Schema, Fail> {
     Ok(Schema::new(columns)?)
 }
 
-fn loaded(alloc: Global) -> Result<Arc<Lineage>, Fail> {
+#[tactic(auto, using(crate::proofs::GivenLemmas::loaded_is_given))]
+fn loaded(alloc: Global) -> Result<Arc<Lineage>, Fail>
+    ensures { IfOk result (λ made. (tables : Tables) → IsGiven tables (arc_value made)) }
+{
     let mut parts = Items::new(alloc);
     parts.push(Text::of(alloc, "x,d,t\n1,2020-02-29,a\n")?)?;
     parts.push(Text::of(alloc, "")?)?;
@@ -310,5 +317,16 @@ fn a_lineage_reads_back_from_its_text(rt: HostRuntime) -> Result<(), Fail> {
         };
         assert!(rt; again == lineage, "of {text}");
     }
+    Ok(())
+}
+
+#[test]
+fn a_loaded_table_reads_back(rt: HostRuntime) -> Result<(), Fail> {
+    let alloc = rt.alloc();
+    let lineage = loaded(alloc)?;
+    let Ok(again) = read_back(alloc, &lineage, &Catalog::new(Vec::new(alloc))) else {
+        return Err(Fail::new("memory was refused"));
+    };
+    assert!(rt; again == lineage);
     Ok(())
 }
