@@ -1,95 +1,129 @@
 #!/usr/bin/env bash
-# What a view of distinct values costs, by how many different values there are.
+# What a view of distinct values costs over 1,000,000 rows, by how many different values there are.
 #
-# Plays loads of 1,000,000 rows in all, ten tables of 100,000 in four partitions each, with 500, 50,000 and
-# 1,000,000 different values of one width in a random order, and a view distinct with k 500 of each table.
-# Compares each value with Python's, and prints the processor time beside that of the same script with views
-# range. Target: the dearest of the three takes at most 3 times as long as the cheapest. The best of three runs.
+# Has a small program over hv_csv's table and hv_range's `Distinct` summarize one partition of 1,000,000 whole
+# numbers, 500, 50,000 and 1,000,000 of them different, in a random order, with k 500. Checks each answer, the k least
+# values and whether there are more, against plain Python's, and prints the time of `summarize` alone, the best of nine
+# passes. Target: the dearest of the three takes at most 3 times as long as the cheapest.
 #
-# usage: bench/distinct.sh    (with hill proved and built: rt ci, or rt run in crates/hill)
+# The program is made, proved and built in a temporary folder, over copies of the crates; with a folder as its
+# argument, in that folder, which stays.
 set -u
 cd "$(dirname "$0")/.." || exit 1
-hill=$PWD/crates/hill/out/hill
-[ -x "$hill" ] || { echo "hill isn't built: run rt ci first" >&2; exit 1; }
-work=$(mktemp -d) || exit 1
-trap 'rm -rf "$work"' EXIT
+for tool in rt python3; do
+    command -v "$tool" > /dev/null || { echo "distinct.sh: skipped, $tool isn't here"; exit 0; }
+done
+if [ $# -gt 0 ]; then
+    work=$1
+    mkdir -p "$work" && rm -rf "$work/repo" || exit 1
+else
+    work=$(mktemp -d) || exit 1
+    trap 'rm -rf "$work"' EXIT
+fi
+crates="hv_value hv_outer hv_column hv_csv hv_sketch hv_range"
+
+make_program() {
+    mkdir -p "$work/repo/crates" && cd "$work/repo" && git init -q . || return 1
+    for crate in $crates; do
+        sed -n "/^$crate:/p" "$1/crates.txt" >> crates.txt
+        mkdir "crates/$crate" && cp -r "$1/crates/$crate/src" "$1/crates/$crate/specs" "$1/crates/$crate/proofs" "crates/$crate/"
+    done
+    sed -n 's/^hv_range: hv_value hv_sketch/rows: hv_value hv_outer hv_column hv_csv hv_sketch hv_range/p' "$1/crates.txt" >> crates.txt
+    mkdir -p crates/rows/src crates/rows/specs crates/rows/proofs
+    : > crates/rows/specs/Lib.antt
+    : > crates/rows/proofs/Lib.antt
+    cat > crates/rows/src/main.rt <<'RT'
+//! The 500 least different whole numbers of a partition on standard input, in nine passes. Prints the nanoseconds of
+//! the best pass and whether there are more, and then each number in a line.
+#![tactic(auto)]
+
+ghost use Rattle.std.specs.Prelude.{◌<◌, ◌^◌, length};
+
+use hv_csv::base_table;
+use hv_outer::{ReadSource, read_all};
+use hv_range::{Distinct, DistinctSummary};
+use hv_sketch::Vizketch;
+use hv_value::{CellRef, Kind, Mem, Memory, Schema, Table, Text};
+use std::alloc::Global;
+use std::io;
+use std::time::Instant;
+
+fn schema_of(alloc: Global) -> Mem<Schema> {
+    let x = (Text::of(alloc, "x")?, Kind::Int);
+    Schema::new(vec![in alloc; x]?).map_err(|_| Memory)
+}
+
+/// The nanoseconds of the best of nine passes, and the summary.
+fn passes<T: Table>(rt: &HostRuntime, table: &T, view: &Distinct) -> Mem<(u128, DistinctSummary)>
+    requires { view.now.col < length (T.columns table.now) }
+{
+    let mut summary = view.zero(rt.alloc())?;
+    let mut best = u128::MAX;
+    for _ in 0..9 {
+        let Ok(start) = Instant::now(rt) else { return Err(Memory) };
+        summary = view.summarize(rt.alloc(), table)?;
+        let Ok(took) = start.elapsed(rt) else { return Err(Memory) };
+        best = best.min(took.as_nanos());
+    }
+    Ok((best, summary))
+}
+
+fn measure(rt: &HostRuntime, bytes: &[u8]) -> Mem<(u128, DistinctSummary)>
+    requires { length bytes.now < 2 ^ 26 }
+{
+    let alloc = rt.alloc();
+    let schema = schema_of(alloc)?;
+    let view = Distinct::new(0, 500);
+    let table = base_table(alloc, &schema, 0, bytes)?;
+    if !view.fits(&schema) {
+        return Err(Memory);
+    }
+    passes(rt, &table, &view)
+}
+
+fn main(rt: HostRuntime) -> io::Result<()> {
+    let Ok(bytes) = read_all(rt.alloc(), &mut ReadSource::new(rt.stdin()), (1 << 26) - 1) else {
+        return println!(rt; "no bytes");
+    };
+    let Ok((best, summary)) = measure(&rt, bytes.as_slice()) else {
+        return println!(rt; "no memory");
+    };
+    println!(rt; "{best} {}", u8::from(summary.more))?;
+    for cell in summary.values.as_slice() {
+        if let CellRef::Int(number) = cell.lent() {
+            println!(rt; "{number}")?;
+        }
+    }
+    Ok(())
+}
+RT
+    cd crates/rows && rt fmt > /dev/null && rt run < /dev/null > "$work/build.log" 2>&1
+    [ -x out/rows ] || { tail -n 20 "$work/build.log"; return 1; }
+}
+
+here=$PWD
+(make_program "$here") || exit 1
 
 cat > "$work/measure.py" <<'PY'
-import json, os, random, subprocess, sys
-
-hill, work = sys.argv[1:3]
-TABLES, ROWS, PARTS, KEPT, ROUNDS, MOST = 10, 100_000, 4, 500, 3, 3.0
+import random, subprocess, sys
+program = sys.argv[1]
+ROWS, KEPT, MOST = 1_000_000, 500, 3
 random.seed(11)
-
-
-def line(message):
-    return json.dumps({"s": 0, "msg": message}, separators=(",", ":")) + "\n"
-
-
-def tables(different):
-    """All rows in a random order, each value as often as another, cut into tables."""
-    values = [1_000_000 + i % different for i in range(TABLES * ROWS)]
-    random.shuffle(values)
-    return [values[i : i + ROWS] for i in range(0, len(values), ROWS)]
-
-
-def parts(values):
-    size = len(values) // PARTS
-    return ["x\n" + "\n".join(map(str, values[i : i + size])) for i in range(0, len(values), size)]
-
-
-def script(made, view):
-    lines = []
-    for number, values in enumerate(made):
-        table = {"schema": [["x", "int"]], "parts": parts(values)}
-        load = line({"id": number, "op": "load", "table": {"inline": table}})
-        assert len(load) <= 1 << 20
-        lines.append(load)
-    for number in range(len(made)):
-        lines.append(line({"id": TABLES + number, "op": "view", "of": number, "view": view}))
-    return "".join(lines)
-
-
-def play(path):
-    least, output = None, b""
-    for _ in range(ROUNDS):
-        with open(path, "rb") as f:
-            child = subprocess.Popen([hill, "play"], stdin=f, stdout=subprocess.PIPE)
-            output = child.stdout.read()
-            _, status, used = os.wait4(child.pid, 0)
-        assert status == 0, f"hill ends with {status}"
-        spent = used.ru_utime + used.ru_stime
-        least = spent if least is None else min(least, spent)
-    return least, output
-
-
-def finals(output):
-    found = {}
-    for text in output.decode().splitlines():
-        out = json.loads(text).get("out", {})
-        if out.get("last"):
-            found[out["id"] - TABLES] = out["value"]
-    return found
-
-
 costs = []
 for different in (500, 50_000, 1_000_000):
-    made, path = tables(different), f"{work}/script"
-    with open(path, "w") as f:
-        f.write(script(made, {"col": "x", "k": KEPT, "kind": "distinct"}))
-    distinct, output = play(path)
-    found = finals(output)
-    for number, values in enumerate(made):
-        rising = sorted(set(values))
-        want = {"more": len(rising) > KEPT, "values": rising[:KEPT]}
-        assert found.get(number) == want, f"table {number} of {different} values differs"
-    with open(path, "w") as f:
-        f.write(script(made, {"col": "x", "kind": "range"}))
-    plain, _ = play(path)
-    costs.append(distinct)
-    print(f"{different:>9} different values: distinct {distinct:.2f} s, range {plain:.2f} s")
-ratio = max(costs) / min(costs)
-print(f"the dearest takes {ratio:.2f} times the cheapest (target: {MOST})")
-sys.exit(ratio > MOST)
+    rows = [1_000_000 + i % different for i in range(ROWS)]
+    random.shuffle(rows)
+    part = ("x\n" + "".join(f"{x}\n" for x in rows)).encode()
+    output = subprocess.run([program], input=part, stdout=subprocess.PIPE, check=True).stdout
+    took, more, *values = map(int, output.split())
+    rising = sorted(set(rows))
+    if values != rising[:KEPT] or more != (len(rising) > KEPT):
+        sys.exit(f"distinct.sh: a wrong answer for {different} different values")
+    costs.append(took)
+    print(f"{different:>9} different values: {took / 1e6:.2f} milliseconds, {took / ROWS:.1f} nanoseconds a row")
+growth, ratio = costs[-1] / costs[0], max(costs) / min(costs)
+print(f"1,000,000 different values take {growth:.2f} times as long as 500")
+print(f"the dearest takes {ratio:.2f} times as long as the cheapest; target of {MOST}: " + ("met" if ratio <= MOST else "MISSED"))
+sys.exit(1 if ratio > MOST else 0)
 PY
-python3 "$work/measure.py" "$hill" "$work"
+python3 "$work/measure.py" "$work/repo/crates/rows/out/rows"
