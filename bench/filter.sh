@@ -2,9 +2,10 @@
 # What a filter costs over 1,000,000 rows: a whole number compared, a text compared, contained and begun with, by
 # predicates that are prepared once.
 #
-# Has a small program over hv_csv's table and hv_expr's `ReadyPred` count the rows of a partition of 1,000,000 rows,
-# checks each count against plain Python's, and prints the nanoseconds a row, the best of nine passes. Targets: at
-# most 10 for a whole number, 40 for an equal text.
+# Has a small program count the rows of a partition of 1,000,000 rows that a filter keeps, in two ways: by hv_expr's
+# `ReadyPred` over hv_csv's table, the predicate alone; and as the program does it, by hv_made's `made_part` of a
+# lineage with the filter over a base that was read before. Checks each count against plain Python's, and prints the
+# nanoseconds a row, the best of nine passes. Targets for both: at most 10 for a whole number, 40 for an equal text.
 #
 # The program is made, proved and built in a temporary folder, over copies of the crates; with a folder as its
 # argument, in that folder, which stays.
@@ -20,7 +21,7 @@ else
     work=$(mktemp -d) || exit 1
     trap 'rm -rf "$work"' EXIT
 fi
-crates="hv_value hv_outer hv_column hv_csv hv_expr"
+crates="hv_value hv_outer hv_member hv_column hv_csv hv_part hv_expr hv_lineage hv_made"
 
 make_program() {
     mkdir -p "$work/repo/crates" && cd "$work/repo" && git init -q . || return 1
@@ -28,13 +29,13 @@ make_program() {
         sed -n "/^$crate:/p" "$1/crates.txt" >> crates.txt
         mkdir "crates/$crate" && cp -r "$1/crates/$crate/src" "$1/crates/$crate/specs" "$1/crates/$crate/proofs" "crates/$crate/"
     done
-    sed -n 's/^hv_expr: hv_value/rows: hv_value hv_outer hv_column hv_csv hv_expr/p' "$1/crates.txt" >> crates.txt
+    sed -n 's/^hv_made:/rows: hv_outer hv_made/p' "$1/crates.txt" >> crates.txt
     mkdir -p crates/rows/src crates/rows/specs crates/rows/proofs
     : > crates/rows/specs/Lib.antt
     : > crates/rows/proofs/Lib.antt
     cat > crates/rows/src/main.rt <<'RT'
-//! Counts the rows of a partition on standard input that a filter keeps, in nine passes, and prints the count and the
-//! nanoseconds of the best pass.
+//! Counts the rows of a partition on standard input that a filter keeps, in nine passes, by the predicate alone and by
+//! the table of a lineage. Prints the count and the nanoseconds of the best pass, of both.
 #![tactic(auto)]
 
 ghost use Rattle.std.specs.Prelude.{◌<◌, ◌^◌, ◌≡◌, length, true};
@@ -42,9 +43,12 @@ ghost use Rattle.hv_expr.specs.Ready.{is_pred_within};
 
 use hv_csv::base_table;
 use hv_expr::{How, Pred, ReadyPred, Rel, TextTest};
+use hv_lineage::{Base, Lineage};
+use hv_made::{base_part, made_part, share_part};
 use hv_outer::{ReadSource, read_all};
 use hv_value::{Cell, Kind, MAX_ROWS, Mem, Memory, Schema, Table, Text};
 use std::alloc::Global;
+use std::sync::Arc;
 use std::time::Instant;
 use std::{env, io};
 
@@ -122,6 +126,41 @@ fn measure(rt: &HostRuntime, bytes: &[u8], word: &str) -> Mem<(u32, u128)>
     passes(rt, &table, &ready)
 }
 
+/// A filter over a table of this schema.
+fn filter_of(alloc: Global, word: &str) -> Mem<Arc<Lineage>> {
+    let schema = schema_of(alloc)?;
+    let table = Text::of(alloc, "rows")?;
+    let base = Lineage::base(alloc, Base::Named { schema, table, parts: 1 })?;
+    Lineage::filter(alloc, &base, pred_of(alloc, word)?).map_err(|_| Memory)
+}
+
+/// The same of the table that hv_made makes of the filter over the base's, without the reading of the base.
+fn measure_made(rt: &HostRuntime, bytes: &[u8], word: &str) -> Mem<(u32, u128)>
+    requires { length bytes.now < 2 ^ 26 }
+{
+    let alloc = rt.alloc();
+    let filter = filter_of(alloc, word)?;
+    let table = base_part(alloc, filter.origin().schema(), 0, bytes)?;
+    let mut found = 0;
+    let mut best = u128::MAX;
+    for _ in 0..9 {
+        let base = share_part(alloc, &table)?;
+        let Ok(start) = Instant::now(rt) else { return Err(Memory) };
+        let made = made_part(alloc, &filter, base)?;
+        let Ok(took) = start.elapsed(rt) else { return Err(Memory) };
+        found = made.member().count();
+        best = best.min(took.as_nanos());
+    }
+    Ok((found, best))
+}
+
+fn show(rt: &HostRuntime, measured: Mem<(u32, u128)>) -> io::Result<()> {
+    match measured {
+        Ok((found, best)) => println!(rt; "{found} {best}"),
+        Err(_) => println!(rt; "no memory"),
+    }
+}
+
 fn main(rt: HostRuntime) -> io::Result<()> {
     let alloc = rt.alloc();
     let mut last = String::new(alloc);
@@ -131,10 +170,8 @@ fn main(rt: HostRuntime) -> io::Result<()> {
     let Ok(bytes) = read_all(alloc, &mut ReadSource::new(rt.stdin()), (1 << 26) - 1) else {
         return println!(rt; "no bytes");
     };
-    match measure(&rt, bytes.as_slice(), last.as_str()) {
-        Ok((found, best)) => println!(rt; "{found} {best}"),
-        Err(_) => println!(rt; "no memory"),
-    }
+    show(&rt, measure(&rt, bytes.as_slice(), last.as_str()))?;
+    show(&rt, measure_made(&rt, bytes.as_slice(), last.as_str()))
 }
 RT
     cd crates/rows && rt fmt > /dev/null && rt run -- int < /dev/null > "$work/build.log" 2>&1
@@ -165,15 +202,17 @@ WANT = {
 missed = 0
 for name, (keeps, target) in WANT.items():
     want = sum(keeps(x, t) for x, t in rows)
-    found, took = map(int, subprocess.run([program, name], input=part, stdout=subprocess.PIPE, check=True).stdout.split())
-    if found != want:
-        sys.exit(f"filter.sh: {name} kept {found} rows, wanted {want}")
-    each = took / ROWS
-    line = f"{name}: {found} rows, {each:.1f} nanoseconds a row"
-    if target is not None:
-        line += f"; target of {target}: " + ("met" if each <= target else "MISSED")
-        missed += each > target
-    print(line)
+    lines = subprocess.run([program, name], input=part, stdout=subprocess.PIPE, check=True).stdout.splitlines()
+    for way, line in zip(("the predicate alone", "the table of a lineage"), lines, strict=True):
+        found, took = map(int, line.split())
+        if found != want:
+            sys.exit(f"filter.sh: {name}, {way}, kept {found} rows, wanted {want}")
+        each = took / ROWS
+        line = f"{name}, {way}: {found} rows, {each:.1f} nanoseconds a row"
+        if target is not None:
+            line += f"; target of {target}: " + ("met" if each <= target else "MISSED")
+            missed += each > target
+        print(line)
 sys.exit(1 if missed else 0)
 PY
 python3 "$work/measure.py" "$work/repo/crates/rows/out/rows"
