@@ -2,6 +2,7 @@ pub mod TermFolds
 pub mod ColumnLemmas
 pub mod PartLemmas
 pub mod FloatLemmas
+pub mod GivenLemmas
 pub mod DayBack
 pub mod ExprBack
 pub mod PredBack
