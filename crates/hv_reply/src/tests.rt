@@ -164,7 +164,6 @@ fn columns(alloc: Global) -> Result<Schema, Fail> {
     Ok(Schema::new(columns)?)
 }
 
-#[tactic(auto, using(crate::proofs::GivenLemmas::loaded_is_given))]
 fn loaded(alloc: Global) -> Result<Arc<Lineage>, Fail>
     ensures { IfOk result (λ made. (tables : Tables) → IsGiven tables (arc_value made)) }
 {
