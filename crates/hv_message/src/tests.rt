@@ -491,77 +491,70 @@ const LOAD: &str = r#"{"id":1,"op":"load","table":{"inline":{"parts":[],"schema"
 #[test]
 fn each_word_of_refusal_is_told_in_its_order(rt: HostRuntime) -> Result<(), Fail> {
     let alloc = rt.alloc();
-    let open = session(alloc)?;
     let mut ended = session(alloc)?;
     ended.end();
-    let full = full_session(alloc)?;
     let unclosed = nested(alloc, 1_048_577, "{", "", "")?;
+    for (text, want) in [
+        (unclosed.as_str(), Why::Size),
+        (r#"{"id":-1"#, Why::Json),
+        (r#"{"id":-1,"op":"q"}"#, Why::Id),
+        (r#"{"id":50,"op":"q"}"#, Why::Ended),
+    ] {
+        assert_eq!(rt; word(alloc, text, &ended)?, Some(want), "of {want:?}");
+    }
+    let open = session(alloc)?;
     let absent = r#"{"col":"q","p":"missing"}"#;
     let deep = nested(alloc, 16, r#"{"of":"#, absent, r#","p":"not"}"#)?;
     let deep = filter_text(alloc, 0, deep.as_str())?;
-    for (state, text, want) in [
-        (&ended, unclosed.as_str(), Why::Size),
-        (&ended, r#"{"id":-1"#, Why::Json),
-        (&ended, r#"{"id":-1,"op":"q"}"#, Why::Id),
-        (&ended, r#"{"id":50,"op":"q"}"#, Why::Ended),
-        (&open, r#"{"id":50,"op":"q"}"#, Why::Busy),
-        (&open, r#"{"id":1,"op":"q"}"#, Why::Op),
+    for (text, want) in [
+        (r#"{"id":50,"op":"q"}"#, Why::Busy),
+        (r#"{"id":1,"op":"q"}"#, Why::Op),
         (
-            &open,
             r#"{"id":1,"of":7,"op":"filter","pred":{"of":[{"col":"x","how":"ge","p":"cmp","to":9223372036854775808},{}],"p":"and"}}"#,
             Why::Field,
         ),
         (
-            &open,
             r#"{"id":1,"of":7,"op":"filter","pred":{"col":"q","how":"ge","p":"cmp","to":9223372036854775808}}"#,
             Why::Limit,
         ),
         (
-            &open,
             r#"{"id":1,"of":7,"op":"filter","pred":{"col":"q","p":"missing"}}"#,
             Why::Object,
         ),
+        (r#"{"id":1,"op":"cancel","request":51}"#, Why::Request),
         (
-            &open,
-            r#"{"id":1,"op":"cancel","request":51}"#,
-            Why::Request,
-        ),
-        (
-            &open,
             r#"{"id":1,"op":"load","table":{"named":{"schema":[],"table":"u"}}}"#,
             Why::Table,
         ),
+        (deep.as_str(), Why::Deep),
         (
-            &full,
-            r#"{"id":1,"op":"load","table":{"inline":{"parts":[],"schema":[]}}}"#,
-            Why::Schema,
-        ),
-        (&open, deep.as_str(), Why::Deep),
-        (
-            &open,
             r#"{"id":1,"of":0,"op":"filter","pred":{"col":"q","how":"ge","p":"cmp","to":null}}"#,
             Why::Column,
         ),
         (
-            &open,
             r#"{"expr":{"e":"year","of":{"e":"length","of":{"col":"q","e":"col"}}},"id":1,"name":"x","of":0,"op":"derive"}"#,
             Why::Kind,
         ),
+    ] {
+        assert_eq!(rt; word(alloc, text, &open)?, Some(want), "of {want:?}");
+    }
+    let full = full_session(alloc)?;
+    for (text, want) in [
         (
-            &full,
+            r#"{"id":1,"op":"load","table":{"inline":{"parts":[],"schema":[]}}}"#,
+            Why::Schema,
+        ),
+        (
             r#"{"expr":{"col":"x","e":"col"},"id":1,"name":"x","of":63,"op":"derive"}"#,
             Why::Clash,
         ),
         (
-            &full,
             r#"{"id":1,"of":63,"op":"filter","pred":{"col":"x","p":"missing"}}"#,
             Why::Depth,
         ),
-        (&full, LOAD, Why::Full),
-    ]
-    .as_slice()
-    {
-        assert_eq!(rt; word(alloc, text, state)?, Some(*want), "of {want:?}");
+        (LOAD, Why::Full),
+    ] {
+        assert_eq!(rt; word(alloc, text, &full)?, Some(want), "of {want:?}");
     }
     Ok(())
 }
