@@ -22,26 +22,26 @@ use jiff_core::civil::Date;
 use std::alloc::Global;
 use std::cmp::Ordering;
 
-/// Whether a cell isn't missing and is in a relation to another.
+/// Whether a cell isn't missing and is in a relation to another. Two whole numbers take no detour.
+#[tactic(auto, unfolding(hv_value::specs::Order::compare_cells))]
 pub(crate) fn is_related(how: Rel, cell: CellRef<'_>, to: &Cell) -> bool
+    ensures { result ≡ is_related how to.now (cell_lent cell.entry) }
+{
+    match (cell, to) {
+        (CellRef::Int(n), Cell::Int(m)) => relates(how, n.cmp(m)),
+        (cell, to) => is_other_related(how, cell, to),
+    }
+}
+
+/// The same, of cells that needn't be whole numbers.
+fn is_other_related(how: Rel, cell: CellRef<'_>, to: &Cell) -> bool
     ensures { result ≡ is_related how to.now (cell_lent cell.entry) }
 {
     match cell {
         CellRef::Missing => false,
-        CellRef::Int(n) => is_int_related(how, n, to),
-        CellRef::Date(day) => relates(how, compare(CellRef::Date(day), to.lent())),
         CellRef::Text(text) => is_text_related(how, text, to),
-    }
-}
-
-/// The same of a whole number, without a detour where the other is one.
-#[tactic(auto, unfolding(hv_value::specs::Order::compare_cells))]
-fn is_int_related(how: Rel, n: i64, to: &Cell) -> bool
-    ensures { result ≡ is_related how to.now (cells.Int n) }
-{
-    match to {
-        Cell::Int(m) => relates(how, n.cmp(m)),
-        other => relates(how, compare(CellRef::Int(n), other.lent())),
+        CellRef::Int(n) => relates(how, compare(CellRef::Int(n), to.lent())),
+        CellRef::Date(day) => relates(how, compare(CellRef::Date(day), to.lent())),
     }
 }
 
