@@ -1,5 +1,5 @@
 -- The year, month and day of a date are those of its day number.
-use Rattle.std.proofs.Common.{◌≡◌, ℕ, ◌≤◌, Bool, true, ℤ, pos, sym, ap, ◌∙◌, of_z, to_z, w16, nat_abs}
+use Rattle.std.proofs.Common.{◌≡◌, ℕ, ◌≤◌, true, ℤ, pos, sym, ap, ◌∙◌, of_z, to_z, w16, nat_abs}
 use Rattle.jiff_core.specs.declared.civil.date.Date.{Date}
 use Rattle.jiff_core.specs.Date.{epoch_day}
 use Rattle.hv_value.specs.Civil.{day_of, month_of, year_of}

@@ -1,11 +1,11 @@
 -- What is wrong with a join: with itself, then with its left side, then with its right side.
-use Rattle.std.proofs.Common.{◌≡◌, ℕ, List, ◌++◌, Option, Some, None, slice_get, ap, sym, ◌∙◌}
+use Rattle.std.proofs.Common.{◌≡◌, ℕ, List, ◌++◌, Option, Some, None, slice_get, ap, ◌∙◌}
 use Rattle.std.specs.Option.{option_or}
 use Rattle.hv_value.specs.declared.cell.Kind.{Kind}
 use Rattle.hv_value.specs.declared.cell.Kind.TheVariants as kind
 use Rattle.hv_value.specs.Schema.{Columns}
 use Rattle.hv_expr.specs.declared.error.ExprErr.{ExprErr}
-use Rattle.hv_expr.specs.declared.expr.Expr.{Expr, Join, out-Expr}
+use Rattle.hv_expr.specs.declared.expr.Expr.{Expr, Join}
 use Rattle.hv_expr.specs.declared.expr.Expr.TheVariants.{outs-Join}
 use Rattle.hv_expr.specs.Checks.{expr_faults, kind_of, node_kind, operand_faults, own_faults}
 use Rattle.hv_expr.proofs.FaultLemmas.{first-append, none-first}

@@ -1,5 +1,5 @@
 -- The value of an expression that can be used is missing or of the expression's kind.
-use Rattle.std.proofs.Common.{◌≡◌, ℕ, zero, suc, Bool, true, false, ◌&&◌, List, [], ◌∷◌, slice_get, Option, Some, None, option_map, Result, Ok, Err, ℤ, ◌+ℤ◌, ◌*ℤ◌, pos, if◌then◌else◌, refl, ap, sym, subst, ◌∙◌}
+use Rattle.std.proofs.Common.{◌≡◌, ℕ, zero, suc, true, false, List, [], ◌∷◌, slice_get, Option, Some, None, option_map, Ok, ℤ, ◌+ℤ◌, ◌*ℤ◌, pos, if◌then◌else◌, refl, ap, subst}
 use Rattle.std.specs.Option.{option_and_then}
 use Rattle.std.proofs.lemmas.Bool.{and_parts}
 use Rattle.hv_value.specs.declared.cell.Kind.{Kind}

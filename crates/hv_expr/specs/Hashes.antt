@@ -1,5 +1,5 @@
 -- What a hash of a test, an expression or a predicate writes: a number for the node, then its parts in order.
-use Rattle.std.specs.Prelude.{ℕ, List, [], ◌∷◌, ◌++◌, flat_map}
+use Rattle.std.specs.Prelude.{ℕ, List, ◌++◌, flat_map}
 use Rattle.std.specs.Hash as fed
 use Rattle.hv_value.specs.declared.cell.Cell.{Cell}
 use Rattle.hv_value.specs.Order.{order_bytes, order_number}

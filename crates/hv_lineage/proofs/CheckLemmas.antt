@@ -1,6 +1,6 @@
 -- An expression that has no fault has a kind.
-use Rattle.std.proofs.Common.{◌≡◌, ◌∙◌, ◌++◌, ◌∷◌, [], ℕ, List, Bool, true, false, Option, Some, None, Result, Ok, Err, refl, sym, ap}
-use Rattle.std.specs.Prelude.{if◌then◌else◌, nat_lt, option_map, slice_get}
+use Rattle.std.proofs.Common.{◌≡◌, ◌∙◌, ◌++◌, ◌∷◌, ℕ, List, Bool, true, false, Option, Some, None, Ok, Err, refl, sym, ap}
+use Rattle.std.specs.Prelude.{if◌then◌else◌, nat_lt, slice_get}
 use Rattle.hv_value.specs.declared.cell.Kind.{Kind}
 use Rattle.hv_value.specs.Schema.{Columns}
 use Rattle.hv_expr.specs.declared.error.ExprErr.{ExprErr}
@@ -10,7 +10,6 @@ use Rattle.hv_expr.specs.declared.expr.Expr.{Expr, fold-Expr, fold_out-Expr, map
 use Rattle.hv_expr.specs.declared.expr.Expr.TheOpen.{Expr-F}
 use Rattle.hv_expr.specs.Checks.{checked_expr, expr_fault, expr_faults, first_fault, kind_of, kind_unless, node_kind, operand_faults, own_faults}
 use Rattle.hv_expr.specs.Sizes.{expr_depth}
-use Rattle.hv_lineage.specs.Refusals.{expr_refusal, refusal_of_fault}
 
 -- a node's kind doesn't hang on its operands
 same-node_kind : {A B : Type 0} (columns : Columns) (f : A → B) (node : Expr-F A) → node_kind columns (map-Expr A B f node) ≡ node_kind columns node

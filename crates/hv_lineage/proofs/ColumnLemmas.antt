@@ -1,11 +1,10 @@
 -- Columns chosen one by one.
-use Rattle.std.proofs.Common.{◌≡◌, ◌<◌, ◌+◌, ◌∷◌, ◌++◌, ◌∙◌, [], ℕ, zero, suc, List, Bool, Option, Some, None, true, false, refl, subst, sym, ap, length, get_or, take, add-one, arith}
-use Rattle.std.specs.Prelude.{◌&&◌, option_and_then, is_some, slice_get}
-use Rattle.std.specs.List.{AllByRecursion, filter_map, list_all, cons_option}
+use Rattle.std.proofs.Common.{◌≡◌, ◌<◌, ◌+◌, ◌∷◌, ◌++◌, [], ℕ, zero, suc, List, Bool, Option, Some, None, true, false, refl, subst, sym, ap, length, get_or, take, add-one, arith}
+use Rattle.std.specs.Prelude.{◌&&◌, slice_get}
+use Rattle.std.specs.List.{AllByRecursion, list_all, cons_option}
 use Rattle.hv_value.specs.declared.cell.Kind.{Kind}
-use Rattle.hv_value.specs.Schema.{Columns, column_place}
+use Rattle.hv_value.specs.Schema.{Columns}
 use Rattle.hv_lineage.specs.Made.{column_named, picked}
-use Rattle.hv_lineage.specs.Refusals.{has_column}
 
 -- one more element
 pub take-next : {X : Type 0} (xs : List X) (j : ℕ) (x : X) → slice_get xs j ≡ Some x → take (j + 1) xs ≡ take j xs ++ x ∷ []

@@ -1,6 +1,6 @@
 -- Refusals told in order: the first reason that stands is the answer, and where none does the lineage is made.
-use Rattle.std.proofs.Common.{◌≡◌, ℕ, List, Option, Some, None, Result, Ok, Err, inl, inr, refl}
-use Rattle.std.specs.Prelude.{IfErr, MatchResult}
+use Rattle.std.proofs.Common.{◌≡◌, ℕ, List, Option, Some, None, Result, Ok, Err, inl, inr}
+use Rattle.std.specs.Prelude.{IfErr}
 use Rattle.std.specs.Option.{option_or}
 use Rattle.hv_value.specs.declared.cell.Kind.{Kind}
 use Rattle.hv_value.specs.Schema.{Columns}

@@ -1,8 +1,7 @@
 -- Terms node by node: their depth and size, what they make of a base, and what each of their nodes keeps.
-use Rattle.std.proofs.Common.{◌≡◌, ◌+◌, ◌∙◌, ℕ, List, Some, None, refl, sym, ap, subst, arith}
-use Rattle.std.specs.Prelude.{true}
+use Rattle.std.proofs.Common.{◌≡◌, ◌+◌, ◌∙◌, ℕ, List, None, refl, sym, ap, subst, arith}
 use Rattle.hv_value.specs.Schema.{Columns}
-use Rattle.hv_expr.specs.Checks.{expr_fault, has_fit_factors, kind_of, pred_fault}
+use Rattle.hv_expr.specs.Checks.{kind_of, pred_fault}
 use Rattle.hv_expr.specs.declared.expr.Expr.{Expr}
 use Rattle.hv_expr.specs.declared.pred.Pred.{Pred}
 use Rattle.hv_lineage.specs.declared.term.Term.{Term, every-Term, every_made-Term, every_here-Term, every_held-Term, fold-Term, fold-roll-Term, map-Term}

@@ -1,6 +1,6 @@
 -- The rows of a lineage over some of its partitions, as one list. The contents of named tables are what a world tells
 -- of them: for a table's name and a partition its bytes, none where it doesn't tell them. This project's own rule.
-use Rattle.std.specs.Prelude.{ℕ, ◌≡◌, ◌≤◌, ◌^◌, List, [], ◌∷◌, ◌++◌, Bool, true, ◌==◌, get_or, Option, Some, None, option_map, option_and_then, MatchOption}
+use Rattle.std.specs.Prelude.{ℕ, ◌≡◌, ◌≤◌, ◌^◌, List, [], ◌∷◌, ◌++◌, true, ◌==◌, get_or, Option, Some, option_map, option_and_then, MatchOption}
 use Rattle.std.specs.List.{AllByRecursion, count_by, filter_map}
 use Rattle.hv_value.specs.Rows.{Row, base_rows}
 use Rattle.hv_value.specs.Schema.{Columns}
@@ -8,7 +8,7 @@ use Rattle.hv_value.specs.Table.{have_kinds}
 use Rattle.hv_member.specs.Sets.{is_in, numbers}
 use Rattle.hv_lineage.specs.declared.base.Base.{Base}
 use Rattle.hv_lineage.specs.declared.base.Base.TheVariants as base
-use Rattle.hv_lineage.specs.Bases.{base_columns, base_parts}
+use Rattle.hv_lineage.specs.Bases.{base_columns}
 use Rattle.hv_lineage.specs.Lineages.{TermOver, lineage_columns, lineage_parts}
 use Rattle.hv_lineage.specs.Made.{row_of}
 

@@ -1,5 +1,5 @@
 -- What a hash of a base, a term or a lineage writes: a number for the node, then its parts in order.
-use Rattle.std.specs.Prelude.{List, ◌++◌, flat_map}
+use Rattle.std.specs.Prelude.{◌++◌, flat_map}
 use Rattle.std.specs.Hash as fed
 use Rattle.hv_expr.specs.Hashes.{expr_writes, pred_writes}
 use Rattle.hv_lineage.specs.declared.base.Base.{Base}

@@ -1,10 +1,10 @@
 -- The columns that are read from a partition's bytes, and the rows that they hold; and a set of rows beside itself.
-use Rattle.std.proofs.Common.{◌≡◌, ◌<◌, ◌∙◌, ◌∷◌, [], ℕ, zero, List, Bool, true, false, Some, refl, sym, ap, map, length, get_or, arith}
+use Rattle.std.proofs.Common.{◌≡◌, ◌<◌, ◌∙◌, ◌∷◌, [], ℕ, List, Bool, true, false, refl, ap, map, length, get_or, arith}
 use Rattle.std.specs.Prelude.{◌&&◌}
 use Rattle.std.specs.List.{AllByRecursion}
 use Rattle.std.proofs.lemmas.List.{length-map}
 use Rattle.hv_value.specs.declared.cell.Kind.{Kind}
-use Rattle.hv_value.specs.Rows.{Row, base_rows, cell_in, column_of_records, records_of, rows_of_records}
+use Rattle.hv_value.specs.Rows.{base_rows, cell_in, column_of_records, records_of, rows_of_records}
 use Rattle.hv_value.specs.Schema.{Columns, is_schema}
 use Rattle.hv_member.specs.Member.{RowSet}
 use Rattle.hv_member.specs.Sets.{IsRising, common, is_in, numbers}

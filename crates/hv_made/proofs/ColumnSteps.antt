@@ -1,10 +1,8 @@
 -- Columns chosen by name, side by side.
-use Rattle.std.proofs.Common.{◌≡◌, ◌<◌, ◌≤◌, ◌∙◌, ◌++◌, ◌∷◌, ◌+◌, ◌⊎◌, [], ℕ, zero, suc, List, Bool, true, false, Option, Some, None, Result, Ok, inl, inr, refl, sym, ap, map, get_or, take, length, arith, add-one}
-use Rattle.std.specs.Prelude.{◌&&◌, if◌then◌else◌, is_some, not, option_map, slice_get}
+use Rattle.std.proofs.Common.{◌≡◌, ◌<◌, ◌∙◌, ◌++◌, ◌∷◌, ◌+◌, [], ℕ, zero, suc, List, Bool, true, false, Option, Some, None, Ok, inl, inr, refl, ap, map, get_or, take, length, arith, add-one}
+use Rattle.std.specs.Prelude.{if◌then◌else◌, is_some, not, slice_get}
 use Rattle.std.specs.List.{AllByRecursion, cons_option, filter_map, list_all}
-use Rattle.std.specs.Option.{option_and_then}
 use Rattle.std.proofs.lemmas.Bool.{and_parts, cases_lt}
-use Rattle.std.proofs.lemmas.List.{length-map}
 use Rattle.std.proofs.lemmas.List.Quantifiers.{position-Some}
 use Rattle.std.proofs.lemmas.Option.{slice_get-get_or, slice_get_within}
 use Rattle.hv_value.specs.declared.cell.Cell.{Cell}
@@ -19,15 +17,14 @@ use Rattle.hv_column.specs.Column.{ColumnCells}
 use Rattle.hv_column.specs.Rows.{cells_across}
 use Rattle.hv_expr.specs.declared.expr.Expr.{Expr}
 use Rattle.hv_expr.specs.Checks.{checked_expr, expr_fault, kind_of}
-use Rattle.hv_expr.specs.Values.{cell_at_place, cell_named, val}
+use Rattle.hv_expr.specs.Values.{val}
 use Rattle.hv_expr.proofs.ValueKinds.{val-is_of_kind}
 use Rattle.hv_part.specs.Part.{Agree, HoldPart, PartRows}
 use Rattle.hv_part.proofs.RowsThere.{cells_across-at, cells_across-kinds, missing-is_of_kind}
-use Rattle.hv_lineage.specs.declared.error.LineageErr.{LineageErr}
 use Rattle.hv_lineage.specs.declared.error.LineageErr.TheVariants as err
-use Rattle.hv_lineage.specs.Made.{column_named, picked, picked_cells, with_column}
+use Rattle.hv_lineage.specs.Made.{picked, picked_cells}
 use Rattle.hv_lineage.specs.Refusals.{choice_refusal, has_column}
-use Rattle.hv_made.specs.Steps.{col_named, picked_cols, value_in}
+use Rattle.hv_made.specs.Steps.{picked_cols, value_in}
 
 -- a column with a name, beside its cells
 pub record Found (columns : Columns) (cols : List ColumnCells) (name : List ℕ) : Type 0 where

@@ -1,5 +1,5 @@
 -- What each step makes of a table, against what the term's node makes of the rows.
-use Rattle.std.proofs.Common.{◌≡◌, ◌<◌, ◌^◌, ◌∙◌, ◌++◌, ◌∷◌, ◌+◌, [], ℕ, zero, suc, List, Bool, true, false, Some, None, refl, sym, ap, map, length, arith, add-one, append_assoc, leb}
+use Rattle.std.proofs.Common.{◌≡◌, ◌<◌, ◌^◌, ◌∙◌, ◌++◌, ◌∷◌, ◌+◌, [], ℕ, zero, suc, List, Bool, true, false, Some, refl, sym, ap, map, length, arith, append_assoc, leb}
 use Rattle.std.specs.Prelude.{if◌then◌else◌, option_map}
 use Rattle.std.specs.List.{filter, filter_map, list_all, range_with_len}
 use Rattle.std.proofs.lemmas.List.{map-append}
@@ -28,7 +28,7 @@ use Rattle.hv_lineage.specs.Made.{Made, columns_of, picked, picked_cells, row_of
 use Rattle.hv_lineage.specs.Refusals.{has_column}
 use Rattle.hv_lineage.proofs.RowLemmas.{recelled, rows-Base, rows-Derive, rows-Filter, rows-Project}
 use Rattle.hv_lineage.proofs.TermNodes.{made-Base, made-Derive, made-Filter, made-Project}
-use Rattle.hv_made.specs.Steps.{HasValues, IsDerived, IsTableOf, passing, picked_cols, with_picked, with_rows}
+use Rattle.hv_made.specs.Steps.{IsDerived, IsTableOf, passing, picked_cols, with_picked, with_rows}
 use Rattle.hv_made.proofs.ColumnSteps.{picked-across}
 
 -- those that pass, of what is made of a list

@@ -1,6 +1,6 @@
 -- Tables of a load that are within their limits make bases.
-use Rattle.std.proofs.Common.{◌≡◌, ℕ, ◌<◌, ◌≤◌, ◌^◌, ◌&&◌, List, [], ◌∷◌, length, Bool, true, false, Option, Some, None, subst, option_map, if◌then◌else◌}
-use Rattle.std.specs.Prelude.{nat_lt, nat_le, find}
+use Rattle.std.proofs.Common.{◌≡◌, ℕ, ◌<◌, ◌≤◌, ◌^◌, List, [], ◌∷◌, length, Bool, true, false, Some, subst, option_map, if◌then◌else◌}
+use Rattle.std.specs.Prelude.{nat_le, find}
 use Rattle.std.specs.List.{list_all, AllByRecursion}
 use Rattle.std.specs.Cmp.{first_so, second_so}
 use Rattle.std.proofs.lemmas.Bool.{leb-true, ltb-true}

@@ -3,9 +3,7 @@ use Rattle.std.proofs.Common.{◌≡◌, ℕ, zero, suc, ◌-◌, ◌≤◌, ref
 use native.Mathlib.Numerals.{unary_clauses}
 use Rattle.std.proofs.lemmas.List.{append_assoc}
 use Rattle.std.specs.Prelude.{codes}
-use Rattle.serde_json.specs.Data.{Data, Items, no_items, item}
-use Rattle.hv_expr.specs.declared.expr.Expr.{Expr}
-use Rattle.hv_expr.specs.declared.pred.Pred.{Pred}
+use Rattle.serde_json.specs.Data.{Data}
 use Rattle.hv_message.specs.declared.flaw.Flaw.{Flaw}
 use Rattle.hv_message.specs.declared.flaw.Flaw.TheVariants.{Field, Limit}
 use Rattle.hv_message.specs.Fields.{text_at}

@@ -1,5 +1,5 @@
 -- Fields that may be flawed. A wrong shape anywhere is told before a number or a length outside its limit.
-use Rattle.std.specs.Prelude.{Bool, if◌then◌else◌, Option, Some, None, Result, Ok, Err, List, [], ◌∷◌, ℕ}
+use Rattle.std.specs.Prelude.{Bool, if◌then◌else◌, Option, Some, None, Result, Ok, Err, List, [], ◌∷◌}
 use Rattle.serde_json.specs.Data.{Data, Items, no_items, item}
 use Rattle.hv_message.specs.declared.flaw.Flaw.{Flaw}
 use Rattle.hv_message.specs.declared.flaw.Flaw.TheVariants.{Field, Limit}

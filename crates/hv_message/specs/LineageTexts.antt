@@ -11,7 +11,7 @@ use Rattle.hv_message.specs.declared.flaw.Flaw.{Flaw}
 use Rattle.hv_message.specs.declared.why.Why.{Why}
 use Rattle.hv_message.specs.declared.why.Why.TheVariants as why
 use Rattle.hv_message.specs.Fields.{text_at, texts_at}
-use Rattle.hv_message.specs.Flaws.{shaped, map_ok, and_then}
+use Rattle.hv_message.specs.Flaws.{shaped, and_then}
 use Rattle.hv_message.specs.Messages.{flawless, loaded, object_of, unless_refused}
 use Rattle.hv_message.specs.Tables.{TableAsked, table_of}
 use Rattle.hv_message.specs.Trees.{under, levels, whole_pred, whole_expr, dated_pred}

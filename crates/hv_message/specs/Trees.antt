@@ -1,5 +1,5 @@
 -- Predicates and expressions that a message gives. Their levels are counted down from 128, since serde_json's reading nests at most 127.
-use Rattle.std.specs.Prelude.{ℕ, zero, suc, List, Bool, nat_le, if◌then◌else◌, Option, Some, None, Result, Ok, Err, bytes_eq, codes}
+use Rattle.std.specs.Prelude.{ℕ, zero, suc, List, nat_le, if◌then◌else◌, Option, Some, None, Result, Ok, Err, bytes_eq, codes}
 use Rattle.serde_json.specs.Data.{Data}
 use Rattle.serde_json.specs.Find.{get}
 use Rattle.serde_json.specs.Read.{max_depth}

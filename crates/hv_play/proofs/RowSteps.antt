@@ -1,5 +1,5 @@
 -- A run of the sessions, put together from its steps where memory suffices, each before the rest of the run.
-use Rattle.std.proofs.Common.{◌≡◌, ◌∙◌, refl, sym, ap, subst, ℕ, ◌+◌, List, [], ◌∷◌, ◌++◌, map, true, false, Option, Some, None, append-nil, inl}
+use Rattle.std.proofs.Common.{◌≡◌, refl, sym, ap, subst, ℕ, ◌+◌, List, [], ◌∷◌, ◌++◌, map, true, false, Some, None, append-nil, inl}
 use Rattle.std.specs.Prelude.{if◌then◌else◌, get_or, slice_set, replicate, flat_map}
 use Rattle.hv_lineage.specs.Lineages.{TermOver}
 use Rattle.hv_message.specs.Messages.{Reading, reading}

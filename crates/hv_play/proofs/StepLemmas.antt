@@ -1,10 +1,10 @@
 -- What the calls that do a line or answer a request have shown, put together.
-use Rattle.std.proofs.Common.{◌≡◌, ◌∙◌, sym, refl, ap, subst, ℕ, zero, suc, ◌+◌, ◌≤◌, ◌<◌, List, [], ◌∷◌, ◌++◌, map, length, get_or, drop, Bool, true, false, Option, Some, None, append_assoc, append-nil, length-append, add-one, arith}
+use Rattle.std.proofs.Common.{◌≡◌, ◌∙◌, sym, refl, ap, subst, ℕ, suc, ◌+◌, ◌≤◌, ◌<◌, List, [], ◌∷◌, ◌++◌, map, length, get_or, drop, Bool, true, false, Option, Some, None, append_assoc, append-nil, add-one, arith}
 use Rattle.std.proofs.lemmas.Bool.{eq-eqb, eqb-true, lt-ltb, ltb-true, ltb-false}
 use Rattle.std.specs.Prelude.{◌==◌, ◌||◌, ◌≢◌, nat_lt, if◌then◌else◌, cond, find, slice_set, replicate, Result, Ok, Err, OnOk, OnErr}
 use Rattle.std.specs.List.{list_any}
-use Rattle.std.proofs.Math.ListN.{get_or-append, get_or-map}
-use Rattle.std.proofs.Math.Seq.{drop-cons, get_or-append_seam, lt-length-set}
+use Rattle.std.proofs.Math.ListN.{get_or-map}
+use Rattle.std.proofs.Math.Seq.{drop-cons, lt-length-set}
 use Rattle.std.proofs.lemmas.List.{ext_get_or, length-replicate, get_or-replicate, get_or_default, length-map, get_or-set_same, get_or-set_other, set-set, set-get_or}
 use Rattle.std.specs.Io.KnownBytes.{Appends}
 use Rattle.std.proofs.KnownBytes.{Appends-nil, Appends-trans}
@@ -16,7 +16,7 @@ use Rattle.hv_play.specs.declared.entry.Entry.{Entry}
 use Rattle.hv_session.specs.declared.request.OpenRequest.{OpenRequest}
 use Rattle.hv_reply.specs.declared.reply.Reply.{Reply}
 use Rattle.hv_member.specs.Sets.{numbers}
-use Rattle.hv_session.specs.Held.{AnswersFirst, replies_of}
+use Rattle.hv_session.specs.Held.{AnswersFirst}
 use Rattle.hv_session.specs.Talk.{Talk, new_talk, Due, Pays, Replies, due_reply, after_due, Closes, closed}
 use Rattle.hv_play.specs.Texts.{entries_text}
 use Rattle.hv_play.specs.Run.{State, Duty, script, drain, refusing, hearing, saying, ticking, treating, Event, comes, written, Does, SaysOwed, Treats, Runs, stays, does, entries_of, out, bad_entry, duties_of, treatings, is_waiting, is_anything_open, talk_of, with_talk, sixteen_sessions, round, whole, early}

@@ -1,5 +1,5 @@
 -- What a session owes between two calls: nothing.
-use Rattle.std.proofs.Common.{◌≡◌, ◌∙◌, sym, refl, ap, List, [], ◌∷◌, ℕ, None, inl}
+use Rattle.std.proofs.Common.{◌≡◌, ◌∙◌, refl, ap, List, [], ◌∷◌, ℕ, None, inl}
 use Rattle.hv_reply.specs.declared.reply.Reply.{Reply}
 use Rattle.hv_reply.specs.declared.reply.Reply.TheVariants.{NoMem}
 use Rattle.hv_session.specs.Held.{AnswersFirst, Held}

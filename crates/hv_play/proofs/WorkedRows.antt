@@ -1,6 +1,6 @@
 -- Worked rows: scripts and the outputs that the definition of a right output gives for them, computed from bytes to bytes.
-use Rattle.std.proofs.Common.{◌≡◌, ◌∙◌, refl, sym, ap, subst, ℕ, pos, negsuc, List, [], ◌∷◌, drop, map, true, false, Option, Some, None, codes, arith, rules}
-use Rattle.std.specs.Prelude.{MatchOption, Result, option_map, slice_set}
+use Rattle.std.proofs.Common.{◌≡◌, ◌∙◌, refl, sym, ap, subst, ℕ, pos, negsuc, List, [], ◌∷◌, drop, map, true, Option, Some, None, codes, arith, rules}
+use Rattle.std.specs.Prelude.{MatchOption, option_map, slice_set}
 use Rattle.std.specs.List.{filter_map}
 use Rattle.std.specs.Str.{is_utf8, chars}
 use Rattle.std.specs.Char.{encode_utf8}
@@ -21,13 +21,12 @@ use Rattle.hv_value.specs.Number.{int_of_text}
 use Rattle.hv_value.specs.Rows.{Row, base_rows}
 use Rattle.hv_value.specs.Schema.{Columns}
 use Rattle.hv_value.specs.Order.{compare_cells}
-use Rattle.hv_range.specs.Distinct.{distinct_of}
 use Rattle.hv_range.specs.Range.{range_of}
 use Rattle.hv_view.specs.declared.any_view.AnyView.{AnyView}
 use Rattle.hv_view.specs.declared.any_view.AnyView.TheVariants as view
 use Rattle.hv_view.specs.declared.shown.Shown.{Shown}
 use Rattle.hv_view.specs.declared.shown.Shown.TheVariants as shown
-use Rattle.hv_view.specs.View.{distinct_shown, range_shown}
+use Rattle.hv_view.specs.View.{range_shown}
 use Rattle.hv_lineage.specs.declared.base.Base.{Base}
 use Rattle.hv_lineage.specs.declared.base.Base.TheVariants as base
 use Rattle.hv_lineage.specs.declared.term.Term.TheVariants as term
@@ -38,7 +37,7 @@ use Rattle.hv_lineage.proofs.TermNodes.{made-Base}
 use Rattle.hv_member.specs.Sets.{numbers}
 use Rattle.hv_message.specs.declared.why.Why.TheVariants as why
 use Rattle.hv_message.specs.Flaws.{and_then}
-use Rattle.hv_message.specs.Messages.{Known, Meaning, Reading, makes, views, cancels, means, malformed, opened_in, reading, reading_of, reading_of_value}
+use Rattle.hv_message.specs.Messages.{Known, Reading, makes, views, cancels, means, malformed, opened_in, reading, reading_of, reading_of_value}
 use Rattle.hv_message.specs.Views as asked
 use Rattle.hv_message.specs.Views.{ViewAsked, viewed}
 use Rattle.hv_reply.specs.declared.reply.Reply.{Reply}
@@ -49,7 +48,7 @@ use Rattle.hv_session.specs.Talk.{Talk, IsFinal, answers, ending, known, making,
 use Rattle.hv_play.specs.declared.entry.BadLine.TheVariants as bad_line
 use Rattle.hv_play.specs.declared.entry.Entry.{Entry}
 use Rattle.hv_play.specs.declared.lines.TheConstants.{SESSIONS}
-use Rattle.hv_play.specs.Run.{script, drain, Event, comes, written, Runs, out, bad_entry, entries_of, no_tables, sixteen_sessions, whole, early, IsTrace}
+use Rattle.hv_play.specs.Run.{script, drain, Event, comes, written, out, bad_entry, no_tables, sixteen_sessions, whole, early, IsTrace}
 use Rattle.hv_play.specs.Script.{line_of, empty, hears, bad, script_lines}
 use Rattle.hv_play.specs.Steps.{at}
 use Rattle.hv_play.specs.Texts.{entry_text, entries_text}

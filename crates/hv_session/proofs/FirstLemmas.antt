@@ -1,5 +1,5 @@
 -- The last word of the request that was opened first is one of an open request.
-use Rattle.std.proofs.Common.{◌≡◌, ◌∙◌, sym, refl, ap, subst, ℕ, List, [], ◌∷◌, length, Bool, Option, Some, None, arith}
+use Rattle.std.proofs.Common.{◌≡◌, ◌∙◌, sym, refl, ap, subst, List, [], ◌∷◌, length, Bool, Some, None, arith}
 use Rattle.std.proofs.lemmas.Bool.{eq-eqb, lt-ltb}
 use Rattle.std.specs.Prelude.{cond, drop, position, slice_get}
 use Rattle.std.specs.List.{position_or_len}

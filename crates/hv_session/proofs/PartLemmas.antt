@@ -1,9 +1,9 @@
 -- The partitions of a lineage, one after another.
-use Rattle.std.proofs.Common.{◌≡◌, ◌∙◌, sym, refl, ap, subst, ℕ, zero, suc, ◌+◌, ◌<◌, List, [], ◌∷◌, ◌++◌, Bool, true, false, ◌||◌, Option, Some, inl, inr, eqb, ltb, arith, add-one, append_assoc}
+use Rattle.std.proofs.Common.{◌≡◌, ◌∙◌, sym, ap, subst, ℕ, zero, suc, ◌+◌, ◌<◌, List, [], ◌∷◌, ◌++◌, ◌||◌, Some, inl, inr, eqb, ltb, arith, add-one, append_assoc}
 use Rattle.std.proofs.lemmas.Bool.{cases_Bool, ltb-true, lt-ltb, eqb-true, eqb-false, or_cases, or_left, or_right}
 use Rattle.std.specs.List.{range_with_len}
 use Rattle.hv_value.specs.Rows.{Row}
-use Rattle.hv_member.specs.Sets.{inserted, is_in, numbers}
+use Rattle.hv_member.specs.Sets.{inserted, numbers}
 use Rattle.hv_member.proofs.MembershipLemmas.{is_in-inserted, is_in-numbers, same_tests}
 use Rattle.hv_member.proofs.RisingLemmas.{IsRising-inserted, IsRising-numbers, same_rising}
 use Rattle.hv_sketch.specs.Parts.{AreBefore}

@@ -1,5 +1,5 @@
 -- A session keeps to itself as its requests come and go.
-use Rattle.std.proofs.Common.{◌≡◌, ◌∙◌, sym, refl, ap, ℕ, zero, suc, List, [], ◌∷◌, ◌++◌, length, map, ◌+◌, Bool, true, false, Option, Some, None, take, drop}
+use Rattle.std.proofs.Common.{◌≡◌, ◌∙◌, sym, refl, ap, ℕ, zero, suc, List, [], ◌∷◌, ◌++◌, length, map, ◌+◌, Bool, Option, Some, None, take, drop}
 use Rattle.std.specs.Prelude.{◌==◌, position, not, nat_lt, cond}
 use Rattle.std.specs.List.{AllByRecursion, position_or_len}
 use Rattle.std.proofs.lemmas.List.{map-append, take-map, drop-map, length-map}

@@ -1,11 +1,10 @@
 -- What a session owes after a text, and that it was paid.
-use Rattle.std.proofs.Common.{◌≡◌, ◌∙◌, sym, refl, ap, subst, ℕ, ◌<◌, ◌≤◌, List, [], ◌∷◌, ◌++◌, length, Bool, true, false, Option, Some, None, Err, inl, inr}
+use Rattle.std.proofs.Common.{◌≡◌, ◌∙◌, sym, refl, ap, subst, ℕ, ◌<◌, ◌≤◌, List, [], ◌∷◌, length, true, Option, Some, None, Err, inl, inr}
 use Rattle.std.proofs.lemmas.Bool.{le-leb, lt-leb}
-use Rattle.std.specs.Prelude.{◌⊎◌, nat_le, if◌then◌else◌, option_and_then}
+use Rattle.std.specs.Prelude.{◌⊎◌, option_and_then}
 use Rattle.serde_json.specs.Data.{Data}
 use Rattle.serde_json.specs.Read.{read}
 use Rattle.hv_value.specs.Catalog.{Tables}
-use Rattle.hv_lineage.specs.Lineages.{TermOver}
 use Rattle.hv_message.specs.declared.limits.TheConstants.{MAX_MESSAGE_BYTES}
 use Rattle.hv_message.specs.declared.message.Message.{Message}
 use Rattle.hv_message.specs.declared.why.Why.{Why}
@@ -13,7 +12,7 @@ use Rattle.hv_message.specs.declared.why.Why.TheVariants as why
 use Rattle.hv_message.specs.Meant.{IsReading, id_of, message_meant}
 use Rattle.hv_message.specs.declared.message.Refusal.{Refusal}
 use Rattle.hv_message.specs.declared.message.Refusal.TheVariants as refusal
-use Rattle.hv_message.specs.Messages.{Known, Meaning, tells, cancels, ends, Reading, means, malformed, reading, reading_of_object, as_object_value, object_of, id_in, id_of_text}
+use Rattle.hv_message.specs.Messages.{Known, cancels, ends, means, malformed, reading, reading_of_object, as_object_value, id_in, id_of_text}
 use Rattle.hv_reply.specs.declared.reply.Reply.{Reply}
 use Rattle.hv_reply.specs.declared.reply.Reply.TheVariants as reply
 use Rattle.hv_session.specs.Held.{Serves, refusal_reply}

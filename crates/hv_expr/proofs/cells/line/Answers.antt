@@ -1,6 +1,4 @@
-use Rattle.std.proofs.Common.{◌∙◌, ap, to_z, of_z}
 use Rattle.std.proofs.Math.Facts.{to_z-of_z}
-use mir.Syntax.{w128}
 use Rattle.hv_expr.proofs.LinearLemmas.{line-computed, line-fits}
 use Rattle.hv_expr.proofs.cells.line.Goals as goal
 

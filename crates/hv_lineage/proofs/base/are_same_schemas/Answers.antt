@@ -1,4 +1,3 @@
-use Rattle.std.proofs.Common.{subst, sym}
 use Rattle.hv_value.specs.SameLaws.{same_by-decides}
 use Rattle.hv_value.specs.contracts.schema.Schema as row
 use Rattle.hv_lineage.proofs.base.are_same_schemas.Goals as goal

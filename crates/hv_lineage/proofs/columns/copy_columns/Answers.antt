@@ -1,4 +1,4 @@
-use Rattle.std.proofs.Common.{◌≡◌, sym}
+use Rattle.std.proofs.Common.{sym}
 use Rattle.hv_lineage.proofs.ColumnLemmas.{take-next}
 use Rattle.hv_lineage.proofs.columns.copy_columns.Goals as goal
 

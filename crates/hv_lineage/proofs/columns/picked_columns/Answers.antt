@@ -1,5 +1,5 @@
-use Rattle.std.proofs.Common.{◌≡◌, ◌∙◌, ◌<◌, length, Some, ap, refl, sym, true, List, ℕ}
-use Rattle.std.specs.Prelude.{is_some, slice_get, option_and_then}
+use Rattle.std.proofs.Common.{◌≡◌, Some, ap, sym, true}
+use Rattle.std.specs.Prelude.{is_some}
 use Rattle.hv_value.specs.Schema.{column_place}
 use Rattle.hv_lineage.specs.Made.{column_named}
 use Rattle.hv_lineage.specs.Refusals.{has_column}

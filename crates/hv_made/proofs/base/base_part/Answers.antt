@@ -1,4 +1,4 @@
-use Rattle.std.proofs.Common.{◌≡◌, ◌∙◌, length, refl}
+use Rattle.std.proofs.Common.{◌≡◌, ◌∙◌, refl}
 use Rattle.hv_value.specs.Rows.{records_of}
 use Rattle.hv_made.proofs.BaseSteps.{agree-records, first-long, row_count, rows-bytes}
 use Rattle.hv_made.proofs.base.base_part.Goals as goal

@@ -1,8 +1,6 @@
-use Rattle.std.proofs.Common.{◌≡◌, ◌<◌, ◌∙◌, ◌∷◌, [], ℕ, Some, ap, arith, length-append, refl, true}
-use Rattle.hv_value.specs.Cells.{cell_at, cell_lent}
-use Rattle.hv_member.specs.Sets.{is_in}
+use Rattle.std.proofs.Common.{◌≡◌, ◌<◌, ◌∙◌, ◌∷◌, [], arith, length-append, refl}
+use Rattle.hv_value.specs.Cells.{cell_lent}
 use Rattle.hv_member.proofs.RisingLemmas.{all-in}
-use Rattle.hv_expr.specs.Checks.{kind_of}
 use Rattle.hv_made.specs.Steps.{value_in}
 use Rattle.hv_made.proofs.ColumnSteps.{next-value, value_in-kind}
 use Rattle.hv_made.proofs.derive.value_column.Goals as goal

@@ -1,8 +1,6 @@
-use Rattle.std.proofs.Common.{◌≡◌, ◌∙◌, ◌++◌, ◌∷◌, ◌<◌, [], Some, None, ap, arith, Bool, ℕ, leb, length, refl, sym, true, false}
+use Rattle.std.proofs.Common.{◌≡◌, ◌∙◌, None, ap, arith, Bool, ℕ, refl, sym, true, false}
 use Rattle.std.specs.Prelude.{option_map}
 use Rattle.std.proofs.lemmas.List.{append-nil}
-use Rattle.std.specs.List.{filter}
-use Rattle.hv_expr.specs.Ready.{IsReadyPred}
 use Rattle.hv_expr.specs.Holds.{holds}
 use Rattle.hv_value.specs.Rows.{Row}
 use Rattle.hv_member.specs.Sets.{next_from}

@@ -1,17 +1,14 @@
-use Rattle.std.proofs.Common.{◌≡◌, ◌<◌, ◌+◌, ◌∙◌, ap, arith, refl, sym, List, None}
-use Rattle.std.specs.Prelude.{IfOk}
+use Rattle.std.proofs.Common.{◌≡◌, ◌+◌, ◌∙◌, ap, arith, refl, None}
 use Rattle.std.specs.List.{filter_map}
 use Rattle.std.proofs.lemmas.Result.{IfOk-weaker}
-use Rattle.hv_value.specs.Schema.{Columns}
-use Rattle.hv_part.specs.Part.{PartRows, rows_of}
+use Rattle.hv_part.specs.Part.{rows_of}
 use Rattle.hv_part.proofs.RowsThere.{wide}
 use Rattle.hv_lineage.specs.declared.term.Term.TheVariants as term
 use Rattle.hv_lineage.specs.Sizes.{term_depth}
 use Rattle.hv_lineage.specs.Made.{columns_of, row_of}
 use Rattle.hv_lineage.specs.Refusals.{choice_refusal}
-use Rattle.hv_lineage.specs.Lineages.{IsFitColumn}
 use Rattle.hv_lineage.proofs.TermNodes.{AreFit, depth-Derive, depth-Filter, depth-Project, here-Derive, here-Project, inner-Derive, inner-Filter, inner-Project}
-use Rattle.hv_made.specs.Steps.{IsDerived, IsTableOf, passing, with_picked, with_rows}
+use Rattle.hv_made.specs.Steps.{IsTableOf, passing, with_picked, with_rows}
 use Rattle.hv_made.proofs.ColumnSteps.{chosen}
 use Rattle.hv_made.proofs.RowSteps.{step-Base, step-Derive, step-Filter, step-Project}
 use Rattle.hv_made.proofs.made.+applied.Goals as goal

@@ -1,10 +1,10 @@
-use Rattle.std.proofs.Common.{◌<◌, ◌∷◌, [], ◌∙◌, length, sym, ap, subst, arith}
+use Rattle.std.proofs.Common.{◌<◌, ◌∙◌, length, sym, ap, subst, arith}
 use Rattle.serde_json.specs.View.{view}
 use Rattle.serde_json.specs.Written.{compact_text}
-use Rattle.std.specs.Prelude.{Some, slice_set}
+use Rattle.std.specs.Prelude.{Some}
 use Rattle.std.proofs.lemmas.List.{set-get_or}
 use Rattle.hv_session.specs.Held.{replies_of}
-use Rattle.hv_play.specs.declared.entry.LineAnswer.TheVariants.{Bad, Said}
+use Rattle.hv_play.specs.declared.entry.LineAnswer.TheVariants.{Bad}
 use Rattle.hv_play.specs.Run.{duties_of}
 use Rattle.hv_play.specs.Script.{line_of_value, text_or_raw}
 use Rattle.hv_play.specs.Steps.{Shows, entries_by}

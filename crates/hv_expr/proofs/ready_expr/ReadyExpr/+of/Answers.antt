@@ -1,9 +1,8 @@
-use Rattle.std.proofs.Common.{◌≡◌, true, IfOk, FitsSigned, rules}
+use Rattle.std.proofs.Common.{◌≡◌, true, FitsSigned, rules}
 use Rattle.std.proofs.Math.Facts.{to_z-of_z}
 use mir.Syntax.{w128}
 use Rattle.std.proofs.lemmas.Result.{IfOk-weaker}
 use Rattle.hv_expr.specs.declared.expr.Expr as tree
-use Rattle.hv_expr.specs.declared.ready_expr.ReadyExpr as ready
 use Rattle.hv_expr.specs.Checks.{has_fit_factors}
 use Rattle.hv_expr.specs.Ready.{IsReadyExpr}
 use Rattle.hv_expr.proofs.ReadyExprLemmas.{ready-col, ready-year, ready-month, ready-day, ready-length, ready-linear-of, ready-join}

@@ -1,4 +1,3 @@
-use Rattle.std.proofs.Common.{◌∙◌}
 use Rattle.hv_lineage.proofs.TermNodes.{hold-Base}
 use Rattle.hv_lineage.proofs.lineage.Lineage.base.Goals as goal
 

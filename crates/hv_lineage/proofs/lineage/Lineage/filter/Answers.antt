@@ -1,5 +1,4 @@
 use Rattle.std.specs.Arc.{arc_value}
-use Rattle.hv_lineage.specs.Lineages.{TermOver}
 use Rattle.hv_lineage.proofs.TermNodes.{extends-Filter}
 use Rattle.hv_lineage.proofs.lineage.Lineage.filter.Goals as goal
 

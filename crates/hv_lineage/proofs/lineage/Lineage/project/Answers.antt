@@ -1,4 +1,4 @@
-use Rattle.std.proofs.Common.{◌≡◌, ◌∙◌, None, sym}
+use Rattle.std.proofs.Common.{◌≡◌, None}
 use Rattle.std.specs.Arc.{arc_value}
 use Rattle.hv_lineage.specs.Refusals.{choice_refusal}
 use Rattle.hv_lineage.proofs.TermNodes.{extends-Project}

@@ -1,4 +1,4 @@
-use Rattle.std.proofs.Common.{◌≡◌, ◌∷◌, [], List, inl, sym, subst, ap}
+use Rattle.std.proofs.Common.{◌∷◌, [], List, inl, sym, subst}
 use Rattle.std.specs.Arc.{arc_value}
 use Rattle.hv_message.specs.Messages.{ends}
 use Rattle.hv_message.specs.declared.message.Message.{Message}
