@@ -23,6 +23,7 @@ use std::alloc::Global;
 use std::cmp::Ordering;
 
 /// Whether a cell isn't missing and is in a relation to another. Two whole numbers take no detour.
+#[inline]
 #[tactic(auto, unfolding(hv_value::specs::Order::compare_cells))]
 pub(crate) fn is_related(how: Rel, cell: CellRef<'_>, to: &Cell) -> bool
     ensures { result ≡ is_related how to.now (cell_lent cell.entry) }
@@ -34,6 +35,7 @@ pub(crate) fn is_related(how: Rel, cell: CellRef<'_>, to: &Cell) -> bool
 }
 
 /// The same, of cells that needn't be whole numbers.
+#[inline(never)]
 fn is_other_related(how: Rel, cell: CellRef<'_>, to: &Cell) -> bool
     ensures { result ≡ is_related how to.now (cell_lent cell.entry) }
 {

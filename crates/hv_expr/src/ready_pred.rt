@@ -73,12 +73,27 @@ impl ReadyPred {
 
     /// Whether the predicate that was prepared holds of a row that is there, in a table of the schema. It takes memory
     /// only where a test folds.
+    #[inline]
     pub fn eval<T: Table>(&self, alloc: Global, table: &T, row: u32) -> Mem<bool>
         requires row_there { option_map (λ found. found.number) (row_from row (T.rows table.now)) ≡ Some row }
         requires within { is_pred_within (length (T.columns table.now)) self.now ≡ true }
         ensures { (pred : Pred) (found : Row) → IsReadyPred (T.columns table.now) pred self.now → row_from row (T.rows table.now) ≡ Some found
             → IfOk result (λ yes. yes ≡ holds (T.columns table.now) found.cells pred) }
     {
+        self.decide_soon(alloc, table, row)
+    }
+
+    /// The same by the prepared tree, which takes no further call where it is a comparison alone.
+    #[inline]
+    #[tactic(auto, using(crate::proofs::ReadyLemmas::nodes))]
+    fn decide_soon<T: Table>(&self, alloc: Global, table: &T, row: u32) -> Mem<bool>
+        requires row_there { option_map (λ found. found.number) (row_from row (T.rows table.now)) ≡ Some row }
+        requires within { is_pred_within (length (T.columns table.now)) self.now ≡ true }
+        ensures { (found : Row) → row_from row (T.rows table.now) ≡ Some found → IfOk result (λ yes. yes ≡ ready_holds found.cells self.now) }
+    {
+        if let ReadyPred::Cmp { place, how, to } = self {
+            return Ok(is_related(*how, cell_at_place(table, row, *place), to));
+        }
         self.decide(alloc, table, row)
     }
 

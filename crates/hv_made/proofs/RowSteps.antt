@@ -121,14 +121,14 @@ row-there table row hold there =
     next_from-some row row table.member.rows hold.member.rising there (omega arith) (λ x there high. high) in
     row_from-rows_at table.part table.cols row table.member.rows ∙ ap (option_map (row_across table.part table.cols)) first
 
--- a walk over numbers that keeps those that pass: one more is kept, or passed over
-module _ (q : ℕ → Bool) (kept numbers all : List ℕ) (from n : ℕ) (next : NextLeft from n numbers)
-    (sofar : kept ++ filter q (filter (leb from) numbers) ≡ all) where
-  pub walk-kept : q n ≡ true → (kept ++ n ∷ []) ++ filter q (filter (leb (n + 1)) numbers) ≡ all
-  walk-kept passes = append_assoc kept (n ∷ []) (filter q (filter (leb (n + 1)) numbers)) ∙ (rw (next.first, passes) at sofar)
-
-  pub walk-passed : q n ≡ false → kept ++ filter q (filter (leb (n + 1)) numbers) ≡ all
-  walk-passed fails = rw (next.first, fails) at sofar
+-- a walk over numbers that keeps those that pass: one more is offered
+pub walk-offered : (q : ℕ → Bool) (kept those all : List ℕ) (from n : ℕ) → NextLeft from n those
+    → kept ++ filter q (filter (leb from) those) ≡ all
+    → (passes : Bool) → passes ≡ q n → (kept ++ (if passes then n ∷ [] else [])) ++ filter q (filter (leb (n + 1)) those) ≡ all
+walk-offered q kept those all from n next sofar true is =
+    append_assoc kept (n ∷ []) (filter q (filter (leb (n + 1)) those)) ∙ (rw (next.first, sym is) at sofar)
+walk-offered q kept those all from n next sofar false is =
+    append_assoc kept [] (filter q (filter (leb (n + 1)) those)) ∙ (rw (next.first, sym is) at sofar)
 
 -- the number that `next` gives of a table's rows is that of a row, and the first that is left
 pub next-left : (table : PartRows) (member : RowSet) (from n : ℕ) → HoldPart table → member ≡ table.member → Some n ≡ next_from from member.rows

@@ -3,6 +3,7 @@
 ghost use Rattle.std.specs.Prelude.{◌≡◌, IfOk};
 ghost use Rattle.hv_made.specs.Steps.{passing, with_rows};
 
+use crate::kept::KeptRows;
 use hv_expr::{Pred, ReadyPred};
 use hv_member::Member;
 use hv_part::PartTable;
@@ -14,15 +15,14 @@ fn passing_rows(alloc: Global, table: &PartTable, pred: &Pred) -> Mem<Vec<u32>>
     ensures { IfOk result (λ rows. rows.items ≡ passing pred.now table.now) }
 {
     let ready = ReadyPred::of(alloc, pred, table.schema())?;
-    let mut passing = Vec::new(alloc);
+    let mut kept = KeptRows::new(alloc);
     let mut from = 0;
     while let Some(row) = table.member().next(from) {
-        if ready.eval(alloc, table, row)? {
-            passing.push(row)?;
-        }
+        let passes = ready.eval(alloc, table, row)?;
+        kept.offer(row, passes)?;
         from = row + 1;
     }
-    Ok(passing)
+    kept.into_rows()
 }
 
 /// Keeps the rows of which a predicate holds, with their numbers.

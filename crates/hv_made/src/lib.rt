@@ -4,6 +4,7 @@
 mod base;
 mod derive;
 mod filter;
+mod kept;
 mod made;
 mod project;
 

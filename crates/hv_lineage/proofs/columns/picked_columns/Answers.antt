@@ -1,4 +1,4 @@
-use Rattle.std.proofs.Common.{◌≡◌, Some, ap, sym, true}
+use Rattle.std.proofs.Common.{◌≡◌, Some, ap, sym}
 use Rattle.std.specs.Prelude.{is_some}
 use Rattle.hv_value.specs.Schema.{column_place}
 use Rattle.hv_lineage.specs.Made.{column_named}

@@ -1,4 +1,4 @@
-use Rattle.std.proofs.Common.{◌≡◌, ◌∙◌, None, ap, arith, Bool, ℕ, refl, sym, true, false}
+use Rattle.std.proofs.Common.{◌≡◌, None, ap, arith, refl, sym}
 use Rattle.std.specs.Prelude.{option_map}
 use Rattle.std.proofs.lemmas.List.{append-nil}
 use Rattle.hv_expr.specs.Holds.{holds}
@@ -7,14 +7,13 @@ use Rattle.hv_member.specs.Sets.{next_from}
 use Rattle.hv_member.proofs.SearchLemmas.{left-none, left-start}
 use Rattle.hv_column.specs.Rows.{cells_across, row_across}
 use Rattle.hv_made.specs.Steps.{passing}
-use Rattle.hv_made.proofs.RowSteps.{next-fewer, next-left, next-small, row-there, walk-kept, walk-passed}
+use Rattle.hv_made.proofs.RowSteps.{next-fewer, next-left, next-small, row-there, walk-offered}
 use Rattle.hv_made.proofs.filter.passing_rows.Goals as goal
-use Rattle.hv_made.proofs.filter.passing_rows.Goals.{then-branch+in_ok-push, else-branch}
 
 -- nothing is kept at the start, and all is left
 pub loop-row-init : goal.loop-row-init
 loop-row-init c = record {
-  sofar = rw (c.new-passing.ensures.items, left-start) refl;
+  sofar = rw (c.new-kept.ensures, left-start) refl;
   prepared = rw c.schema.ensures.value at c.in_ok-ready.ensures;
 }
 
@@ -48,19 +47,13 @@ loop-row-preserved c =
     let table = c.args.table.now in
     let n = c.in-Some.row in
     let next = next-left table c.member.result.now c.loop-row.from n c.member.ensures.whole c.member.ensures.value c.in-Some.ensures in
-    let value : c.in_ok-eval.field-0 ≡ holds table.columns (cells_across table.cols n) c.args.pred.now =
-    c.in_ok-eval.ensures c.args.pred.now (row_across table.part table.cols n) c.loop-row.invariant.prepared
+    let value : c.in_ok-passes.passes ≡ holds table.columns (cells_across table.cols n) c.args.pred.now =
+    c.in_ok-passes.ensures c.args.pred.now (row_across table.part table.cols n) c.loop-row.invariant.prepared
     (row-there table n c.member.ensures.whole next.there) in
-    let passes : ℕ → Bool = λ m. holds table.columns (cells_across table.cols m) c.args.pred.now in
     record {
-      sofar = elim c.if-branch.branch [
-        | then-branch+in_ok-push w ↦ rw (w.passing-is, w.in_ok-push.ensures.items)
-            (walk-kept passes c.loop-row.passing.items table.member.rows (passing c.args.pred.now table) c.loop-row.from n next
-            c.loop-row.invariant.sofar (sym value ∙ w.if-branch.true))
-        | else-branch w ↦ rw w.passing-is
-            (walk-passed passes c.loop-row.passing.items table.member.rows (passing c.args.pred.now table) c.loop-row.from n next
-            c.loop-row.invariant.sofar (sym value ∙ w.if-branch.false))
-      ];
+      sofar = rw c.in_ok-offer.ensures
+          (walk-offered (λ m. holds table.columns (cells_across table.cols m) c.args.pred.now) c.loop-row.kept table.member.rows
+          (passing c.args.pred.now table) c.loop-row.from n next c.loop-row.invariant.sofar c.in_ok-passes.passes value);
       prepared = c.loop-row.invariant.prepared;
     }
 
@@ -69,4 +62,5 @@ pub returns : goal.returns
 returns c =
     let none : next_from c.loop-row.from c.args.table.now.member.rows ≡ None = rw c.member.ensures.value at (sym c.in_default.ensures) in
     let left = left-none c.loop-row.from c.args.table.now.member.rows none in
-    rw (left, append-nil) at c.loop-row.invariant.sofar
+    let all : c.loop-row.kept ≡ passing c.args.pred.now c.args.table.now = rw (left, append-nil) at c.loop-row.invariant.sofar in
+    rw all at c.into_rows.ensures

@@ -8,7 +8,7 @@ use Rattle.hv_made.proofs.filter.passing_rows.Given as goal
 
 abbrev pub invariant-loop-row : goal.invariant-loop-row
 invariant-loop-row l = record {
-  sofar : l.passing.items ++ filter (λ n. holds l.table.columns (cells_across l.table.cols n) l.pred) (filter (leb l.from) l.table.member.rows)
+  sofar : l.kept ++ filter (λ n. holds l.table.columns (cells_across l.table.cols n) l.pred) (filter (leb l.from) l.table.member.rows)
       ≡ passing l.pred l.table;
   prepared : IsReadyPred l.table.columns l.pred l.ready;
 }

@@ -2,7 +2,6 @@ use Rattle.std.proofs.Common.{◌≡◌, ◌+◌, ◌∙◌, ap, arith, refl, No
 use Rattle.std.specs.List.{filter_map}
 use Rattle.std.proofs.lemmas.Result.{IfOk-weaker}
 use Rattle.hv_part.specs.Part.{rows_of}
-use Rattle.hv_part.proofs.RowsThere.{wide}
 use Rattle.hv_lineage.specs.declared.term.Term.TheVariants as term
 use Rattle.hv_lineage.specs.Sizes.{term_depth}
 use Rattle.hv_lineage.specs.Made.{columns_of, row_of}

@@ -1,6 +1,5 @@
 use Rattle.std.proofs.Common.{◌≡◌, slice_get, None, refl, ◌∙◌, arith}
 use Rattle.std.proofs.lemmas.Grind.{common_steps}
-use Rattle.hv_value.specs.declared.cell.Kind.TheVariants as kind
 use Rattle.hv_expr.specs.Checks.{own_faults}
 use Rattle.hv_expr.proofs.Nodes.{join-first}
 use Rattle.hv_expr.proofs.expr.Expr.+fault.Goals as goal
