@@ -176,3 +176,25 @@ fn no_bytes_make_no_rows(rt: HostRuntime) -> Result<(), LineageErr> {
     }
     Ok(())
 }
+
+// Of many rows each that passes is kept, in order, however many were kept before it.
+#[test]
+fn a_filter_keeps_each_row_of_many(rt: HostRuntime) -> Result<(), LineageErr> {
+    let alloc = rt.alloc();
+    let kept = has(alloc, &named_base(alloc)?, "x")?;
+    let mut bytes = Vec::from_slice(alloc, b"x,t\n")?;
+    for _ in 0..600 {
+        bytes.extend_from_slice(b"1,a\n,b\n")?;
+    }
+    assert_eq!(rt; bytes.len(), 4204);
+    let table = table_of(alloc, &kept, 0, bytes.as_slice())?;
+    assert_eq!(rt; table.member().count(), 600);
+    for n in 0..600 {
+        assert_eq!(rt; table.next_row(2 * n), Some(2 * n));
+        assert_eq!(rt;
+            table.next_row(2 * n + 1),
+            if n < 599 { Some(2 * n + 2) } else { None }
+        );
+    }
+    Ok(())
+}
