@@ -33,11 +33,11 @@ impl Gather for Distinct {
 
     type Gathered = DistinctSummary;
 
-    ghost gathers = { λ view rows summary. summary ≡ distinct_of view.col view.k rows };
+    ghost gathers = { λ view part rows summary. summary ≡ distinct_of view.col view.k rows };
 
     ghost takes = { λ view columns. view.col < length columns };
 
-    fn start(&self, alloc: Global) -> Mem<DistinctSummary> {
+    fn start<T: Table>(&self, alloc: Global, _table: &T) -> Mem<DistinctSummary> {
         Ok(DistinctSummary::empty(alloc))
     }
 

@@ -31,11 +31,11 @@ impl Gather for Range {
 
     type Gathered = RangeSummary;
 
-    ghost gathers = { λ view rows summary. IsRange view.kind view.col rows summary };
+    ghost gathers = { λ view part rows summary. IsRange view.kind view.col rows summary };
 
     ghost takes = { λ view columns. IsColumnOf columns view.col view.kind };
 
-    fn start(&self, _alloc: Global) -> Mem<RangeSummary> {
+    fn start<T: Table>(&self, _alloc: Global, _table: &T) -> Mem<RangeSummary> {
         Ok(RangeSummary::empty())
     }
 

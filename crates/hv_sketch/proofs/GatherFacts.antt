@@ -1,18 +1,14 @@
 -- A walk over a table's rows, over a variable `G` for "what is kept is that of the rows".
 use Rattle.std.proofs.Common.{◌≡◌, ◌≤◌, ◌<◌, ◌+◌, ◌^◌, ◌∷◌, ◌++◌, [], ℕ, List, Option, Some, None, refl, sym, ap, subst, length, arith, append_assoc, ◌∙◌}
 use Rattle.std.specs.Prelude.{option_map}
-use Rattle.std.specs.List.{AllByRecursion}
 use Rattle.std.proofs.lemmas.List.{append-nil, length-append}
 use Rattle.hv_value.specs.Rows.{Row}
 use Rattle.hv_value.specs.Schema.{Columns}
 use Rattle.hv_value.specs.Table.{IsTable, onward, row_from}
 use Rattle.hv_value.proofs.TableFacts.{IsNext, onward-all, is_next, onward-none, row_found}
 use Rattle.hv_sketch.proofs.Apart.{apart_by}
-use Rattle.hv_sketch.specs.Merging.{CanMerge, IsApart}
-
--- each row's number is below a number
-abbrev pub AreBelow : ℕ → List Row → Type 0
-AreBelow top rows = AllByRecursion (λ row. row.number < top) rows
+use Rattle.hv_sketch.specs.Gathering.{AreBelow, ComesNext}
+use Rattle.hv_sketch.specs.Merging.{IsApart}
 
 -- the rows before a number have been gathered, and no others
 pub record HasGathered (G : List Row → Type 0) (rows : List Row) (from : ℕ) : Type 0 where
@@ -29,7 +25,12 @@ pub record IsStep (columns : Columns) (part from : ℕ) (rows : List Row) (row :
   pub there : row_from row rows ≡ Some found
   pub next : IsNext columns part from rows found
 
--- numbers below one number are below a higher one, and so is a further one
+-- numbers below one number are below a higher one
+AreBelow-higher : (low top : ℕ) (rows : List Row) → low ≤ top → AreBelow low rows → AreBelow top rows
+AreBelow-higher low top [] le h = tt
+AreBelow-higher low top (r ∷ rows) le h = (omega (arith, h.0), AreBelow-higher low top rows le h.1)
+
+-- and so is a further one
 AreBelow-more : (low top : ℕ) (rows : List Row) (row : Row) → low ≤ top → row.number < top → AreBelow low rows → AreBelow top (rows ++ row ∷ [])
 AreBelow-more low top [] row le lt h = (lt, tt)
 AreBelow-more low top (r ∷ rows) row le lt h = (omega (arith, h.0), AreBelow-more low top rows row le lt h.1)
@@ -67,17 +68,20 @@ gathered_none G columns part rows table g =
 
 -- the next row may be added to those that have been gathered
 pub can_add : (G : List Row → Type 0) (columns : Columns) (part from : ℕ) (rows : List Row) (row : ℕ)
-    → (step : IsStep columns part from rows row) (so_far : HasGathered G rows from) → CanMerge so_far.before (step.found ∷ [])
+    → (step : IsStep columns part from rows row) (so_far : HasGathered G rows from) → ComesNext so_far.before step.found
 can_add G columns part from rows row step so_far =
     record {
-      apart = below_apart from so_far.before step.found step.next.row.at_least so_far.below;
-      few = omega (arith, so_far.few, step.next.row.at_least, step.next.row.below);
+      merge = record {
+        apart = below_apart from so_far.before step.found step.next.row.at_least so_far.below;
+        few = omega (arith, so_far.few, step.next.row.at_least, step.next.row.below);
+      };
+      below = AreBelow-higher from step.found.number so_far.before step.next.row.at_least so_far.below;
     }
 
 -- with it one row more has been gathered
 pub gathered_more : (G H : List Row → Type 0) (columns : Columns) (part from : ℕ) (rows : List Row) (row : ℕ)
     → (step : IsStep columns part from rows row) → HasGathered G rows from
-    → ((before : List Row) (found : Row) → row_from row rows ≡ Some found → G before → CanMerge before (found ∷ []) → H (before ++ found ∷ []))
+    → ((before : List Row) (found : Row) → row_from row rows ≡ Some found → G before → ComesNext before found → H (before ++ found ∷ []))
     → HasGathered H rows (row + 1)
 gathered_more G H columns part from rows row step so_far add =
     let up = step.next.row.at_least in

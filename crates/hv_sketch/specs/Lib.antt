@@ -1,4 +1,5 @@
 pub mod Columns
+pub mod Gathering
 pub mod Merging
 pub mod Parts
 pub mod Rising

@@ -14,11 +14,11 @@ impl Gather for RowCount {
 
     type Gathered = u64;
 
-    ghost gathers = { λ view rows count. count ≡ length rows };
+    ghost gathers = { λ view part rows count. count ≡ length rows };
 
     ghost takes = { λ view columns. ⊤ };
 
-    fn start(&self, _alloc: Global) -> Mem<u64> {
+    fn start<T: Table>(&self, _alloc: Global, _table: &T) -> Mem<u64> {
         Ok(0)
     }
 

@@ -1,6 +1,7 @@
 pub mod Catalog
 pub mod Cells
 pub mod Civil
+pub mod Codes
 pub mod Days
 pub mod Number
 pub mod Order

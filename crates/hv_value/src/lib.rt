@@ -18,7 +18,7 @@ pub use memory::{Mem, Memory};
 pub use number::int_of;
 pub use order::compare;
 pub use schema::{MAX_COLUMNS, MAX_NAME_BYTES, Schema, SchemaErr};
-pub use table::{MAX_ROWS, Table};
+pub use table::{Coded, MAX_ROWS, Table};
 pub use text::Text;
 
 #[cfg(test)]

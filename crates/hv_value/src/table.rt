@@ -1,16 +1,26 @@
 //! The interface of a table. Contracts see one as its columns, its partition's number and its list of
 //! tagged rows (`IsTable` of specs/Table.antt says what each table keeps of them).
 
-ghost use Rattle.std.specs.Prelude.{◌≡◌, ◌<◌, ℕ, List, length, option_map, Some};
+ghost use Rattle.std.specs.Prelude.{◌≡◌, ◌<◌, ℕ, List, length, option_map, IfSome, Some};
 ghost use Rattle.hv_value.specs.Cells.{cell_lent, cell_at};
+ghost use Rattle.hv_value.specs.Codes.{HoldCodes};
 ghost use Rattle.hv_value.specs.Rows.{Row};
 ghost use Rattle.hv_value.specs.Schema.{Columns};
 ghost use Rattle.hv_value.specs.Table.{IsTable, row_from};
 
-use crate::{CellRef, Schema};
+use crate::{CellRef, Schema, Text};
 
 /// The most rows of a partition, and so one more than its greatest row number.
 pub const MAX_ROWS: u32 = 1 << 26;
+
+/// A column of texts by codes, as a table lends it: the different texts, each once, and a code for each row
+/// number of the partition, whether the row is there or not. Code 0 is a missing cell, and code k + 1 the text
+/// at place k.
+#[derive(Clone, Copy)]
+pub struct Coded<'a> {
+    pub words: &'a [Text],
+    pub codes: &'a [u32],
+}
 
 /// Some rows of one partition of a table.
 pub trait Table {
@@ -34,9 +44,27 @@ pub trait Table {
     fn next_row(&self, from: u32) -> Option<u32>
         ensures { result ≡ option_map (λ row. row.number) (row_from from (rows self.now)) };
 
+    /// The same as `next_row`. A walk over rising rows begins with a `hint` of 0 and hands the same one on to each
+    /// call; what it holds is the table's own, and any other value is only slow.
+    fn next_near(&self, from: u32, hint: &mut usize) -> Option<u32>
+        ensures { result ≡ option_map (λ row. row.number) (row_from from (rows self.now)) }
+    {
+        let _ = hint;
+        self.next_row(from)
+    }
+
     /// The cell in a row that is there, at a column's place from 0.
     fn cell(&self, row: u32, col: u32) -> CellRef<'_>
         requires row_there { option_map (λ found. found.number) (row_from row (rows self.now)) ≡ Some row }
         requires col_there { col < length (columns self.now) }
         ensures { (found : Row) → row_from row (rows self.now) ≡ Some found → cell_lent result ≡ cell_at found.cells col };
+
+    /// The column at a place from 0 by codes, where the table keeps it so. A table that says nothing keeps none so.
+    fn codes(&self, col: u32) -> Option<Coded<'_>>
+        requires { col < length (columns self.now) }
+        ensures { IfSome result (λ lent. HoldCodes col (rows self.now) lent.words.now lent.codes.now) }
+    {
+        let _ = col;
+        None
+    }
 }

@@ -5,7 +5,7 @@ use Rattle.hv_value.specs.Cells.{cell_lent}
 use Rattle.hv_value.specs.Order.{compare_cells}
 use Rattle.hv_value.specs.Rows.{Row}
 use Rattle.hv_value.specs.Table.{row_from}
-use Rattle.hv_sketch.specs.Merging.{CanMerge}
+use Rattle.hv_sketch.specs.Gathering.{ComesNext}
 use Rattle.hv_sketch.specs.Rising.{put}
 use Rattle.hv_range.specs.ColumnCells.{is_missing}
 use Rattle.hv_range.specs.Distinct.{distinct_of, distinct_values, first_of, kept}
@@ -21,7 +21,7 @@ returns g c =
     let step : ((values : List Cell) → c.args.kept.now ≡ first_of view.k values
     → c.add_value.new.summary ≡ first_of view.k (put compare_cells kept (cell_lent c.cell-cell.result) values))
     → (rows : List Row) (found : Row) → row_from c.args.row (g.T.Table.rows c.args.table.now) ≡ Some found
-    → c.args.kept.now ≡ distinct_of view.col view.k rows → CanMerge rows (found ∷ [])
+    → c.args.kept.now ≡ distinct_of view.col view.k rows → ComesNext rows found
     → c.add_value.new.summary ≡ distinct_of view.col view.k (rows ++ found ∷ []) =
     λ added rows found there so_far can.
     let is = c.cell-cell.ensures found there in
