@@ -13,7 +13,7 @@ use Rattle.hv_lineage.specs.Kept.{Extends, HoldLineage}
 use Rattle.hv_lineage.specs.Lineages.{IsFitColumn, IsFitNode, TermOver}
 use Rattle.hv_lineage.specs.Made.{Made, columns_of, made_of, node_made, picked, with_column}
 use Rattle.hv_lineage.specs.Refusals.{choice_refusal}
-use Rattle.hv_lineage.specs.Sizes.{node_measure, term_depth, term_size}
+use Rattle.hv_lineage.specs.Sizes.{node_depth, node_size, term_depth, term_size}
 
 module _ (A : Type 0) (step : Term-F A → A) where
   pub fold-Base : fold-Term A step term.Base ≡ step Term-F.Base
@@ -32,36 +32,36 @@ module _ (A : Type 0) (step : Term-F A → A) where
 -- the depth of each term
 pub depth-Base : term_depth term.Base ≡ 1
 unfolding term_depth
-depth-Base = fold-Base ℕ node_measure
+depth-Base = fold-Base ℕ node_depth
 
 pub depth-Filter : (of : Term) (pred : Pred) → term_depth (term.Filter of pred) ≡ term_depth of + 1
 unfolding term_depth
-depth-Filter of pred = fold-Filter ℕ node_measure of pred
+depth-Filter of pred = fold-Filter ℕ node_depth of pred
 
 pub depth-Project : (of : Term) (cols : List (List ℕ)) → term_depth (term.Project of cols) ≡ term_depth of + 1
 unfolding term_depth
-depth-Project of cols = fold-Project ℕ node_measure of cols
+depth-Project of cols = fold-Project ℕ node_depth of cols
 
 pub depth-Derive : (of : Term) (name : List ℕ) (expr : Expr) → term_depth (term.Derive of name expr) ≡ term_depth of + 1
 unfolding term_depth
-depth-Derive of name expr = fold-Derive ℕ node_measure of name expr
+depth-Derive of name expr = fold-Derive ℕ node_depth of name expr
 
 -- its number of nodes
 pub size-Base : term_size term.Base ≡ 1
 unfolding term_size
-size-Base = fold-Base ℕ node_measure
+size-Base = fold-Base ℕ node_size
 
 pub size-Filter : (of : Term) (pred : Pred) → term_size (term.Filter of pred) ≡ term_size of + 1
 unfolding term_size
-size-Filter of pred = fold-Filter ℕ node_measure of pred
+size-Filter of pred = fold-Filter ℕ node_size of pred
 
 pub size-Project : (of : Term) (cols : List (List ℕ)) → term_size (term.Project of cols) ≡ term_size of + 1
 unfolding term_size
-size-Project of cols = fold-Project ℕ node_measure of cols
+size-Project of cols = fold-Project ℕ node_size of cols
 
 pub size-Derive : (of : Term) (name : List ℕ) (expr : Expr) → term_size (term.Derive of name expr) ≡ term_size of + 1
 unfolding term_size
-size-Derive of name expr = fold-Derive ℕ node_measure of name expr
+size-Derive of name expr = fold-Derive ℕ node_size of name expr
 
 -- what it makes of a base
 pub made-Base : (base : Columns) → made_of base term.Base ≡ node_made base Term-F.Base
