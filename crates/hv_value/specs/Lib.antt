@@ -1,4 +1,5 @@
 pub mod Catalog
+pub mod CellOrder
 pub mod Cells
 pub mod Civil
 pub mod Codes
