@@ -6,6 +6,8 @@ pub mod Codes
 pub mod Days
 pub mod Number
 pub mod Order
+pub mod OrderLaws
+pub mod Orders
 pub mod Schema
 pub mod Rows
 pub mod Same
