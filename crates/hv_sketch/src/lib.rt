@@ -4,6 +4,8 @@
 mod columns;
 mod counts;
 mod gather;
+mod group_table;
+mod groups;
 mod laws;
 mod pair;
 mod parts;
@@ -16,6 +18,7 @@ mod vizketch;
 pub use columns::is_column_of;
 pub use counts::Counts;
 pub use gather::{Gather, gather_rows};
+pub use groups::Groups;
 pub use laws::{least_of_pieces, order_is_free};
 pub use pair::{Pair, PairSummary};
 pub use parts::add_part;
