@@ -1,7 +1,8 @@
 -- Rows by groups: each row is in one group, numbered from 0, or in none.
-use Rattle.std.specs.Prelude.{◌≡◌, ℕ, List, Bool, false, Option, Some, None, length, map, is_none, nat_eq, nat_le, slice_get}
+use Rattle.std.specs.Prelude.{◌≡◌, ◌++◌, ℕ, List, Bool, false, Option, Some, None, length, map, is_none, nat_eq, nat_le, slice_get}
 use Rattle.std.specs.List.{count_by, filter, find}
 use Rattle.hv_value.specs.Rows.{Row}
+use Rattle.hv_sketch.specs.Merging.{CanMerge}
 
 -- whether a group is the one that was found
 abbrev pub is_group : ℕ → Option ℕ → Bool
@@ -38,3 +39,19 @@ pub record StandForGroups {S : Type 0} (group : Row → Option ℕ) (count : ℕ
 pub record AreSorted (group : Row → Option ℕ) (count : ℕ) (rows : List Row) (lists : List (List ℕ)) (rest : ℕ) : Type 0 where
   pub each : AreMade (λ g numbers. numbers ≡ numbers_of (group_rows group g rows)) count lists
   pub others : rest ≡ ungrouped group rows
+
+-- what holds of the element at a place of a list
+abbrev pub OfPlace : {X : Type 0} → List X → ℕ → (X → Type 0) → Type 0
+OfPlace {X} xs place P = (x : X) → slice_get xs place ≡ Some x → P x
+
+-- one summary stands for all rows for which another does
+abbrev pub IsCopy : {S : Type 0} → (List Row → S → Type 0) → S → S → Type 0
+IsCopy stands s t = (rows : List Row) → stands rows s → stands rows t
+
+-- two summaries stand for rows that may be merged
+abbrev pub CanSum : {S : Type 0} → (List Row → S → Type 0) → S → S → Type 0
+CanSum stands s more = (a : List Row) × (b : List Row) × stands a s × stands b more × CanMerge a b
+
+-- one summary stands for all rows for which two others do together
+abbrev pub IsSum : {S : Type 0} → (List Row → S → Type 0) → S → S → S → Type 0
+IsSum stands s more t = (a b : List Row) → stands a s → stands b more → CanMerge a b → stands (a ++ b) t

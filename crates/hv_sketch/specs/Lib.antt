@@ -1,6 +1,7 @@
 pub mod ColumnCells
 pub mod Columns
 pub mod Gathering
+pub mod GroupLaws
 pub mod Groups
 pub mod Joining
 pub mod Merging
