@@ -8,7 +8,7 @@ use Rattle.std.proofs.lemmas.List.Sums.{count_by-le-length, length-filter}
 use Rattle.std.proofs.lemmas.Option.{get_or_from_slice_get, slice_get-get_or, slice_get_within}
 use Rattle.hv_value.specs.Rows.{Row}
 use Rattle.hv_sketch.specs.GroupLaws.{group_rows-join, ungrouped-join}
-use Rattle.hv_sketch.specs.Groups.{AreMade, AreSorted, CanSum, IsCopy, IsSum, OfPlace, StandForGroups, group_rows, is_group, numbers_of, ungrouped}
+use Rattle.hv_sketch.specs.Groups.{AreMade, AreListed, CanSum, IsCopy, IsSum, OfPlace, StandForGroups, group_rows, is_group, numbers_of, ungrouped}
 use Rattle.hv_sketch.specs.Merging.{CanMerge, HaveOneTag, IsApart}
 use Rattle.hv_sketch.proofs.GroupRows.{all-picked}
 
@@ -33,8 +33,8 @@ numbers-other group g rows found is_not = numbers-more group g rows found ∙ rw
 
 -- a row's own number is put at the end of its group's list
 put_at_end : (group : Row → Option ℕ) (count : ℕ) (rows : List Row) (found : Row) (lists : List (List ℕ)) (rest h : ℕ)
-    → AreSorted group count rows lists rest → group found ≡ Some h → h < count
-    → AreSorted group count (rows ++ found ∷ []) (set lists h (get_or lists h [] ++ found.number ∷ [])) rest
+    → AreListed group count rows lists rest → group found ≡ Some h → h < count
+    → AreListed group count (rows ++ found ∷ []) (set lists h (get_or lists h [] ++ found.number ∷ [])) rest
 put_at_end group count rows found lists rest h so_far is within =
     record {
       each = record { many = length-set lists h _ ∙ so_far.each.many; each = each };
@@ -67,11 +67,11 @@ put_at_end group count rows found lists rest h so_far is within =
         ]
 
 -- and so is a number that is the row's
-pub sorted_more : (group : Row → Option ℕ) (count : ℕ) (rows : List Row) (found : Row) (lists : List (List ℕ)) (rest h n : ℕ)
-    → AreSorted group count rows lists rest → group found ≡ Some h → h < count → found.number ≡ n
-    → AreSorted group count (rows ++ found ∷ []) (set lists h (get_or lists h [] ++ n ∷ [])) rest
-sorted_more group count rows found lists rest h n so_far is within same =
-    subst (λ m. AreSorted group count (rows ++ found ∷ []) (set lists h (get_or lists h [] ++ m ∷ [])) rest) same
+pub listed_more : (group : Row → Option ℕ) (count : ℕ) (rows : List Row) (found : Row) (lists : List (List ℕ)) (rest h n : ℕ)
+    → AreListed group count rows lists rest → group found ≡ Some h → h < count → found.number ≡ n
+    → AreListed group count (rows ++ found ∷ []) (set lists h (get_or lists h [] ++ n ∷ [])) rest
+listed_more group count rows found lists rest h n so_far is within same =
+    subst (λ m. AreListed group count (rows ++ found ∷ []) (set lists h (get_or lists h [] ++ m ∷ [])) rest) same
     (put_at_end group count rows found lists rest h so_far is within)
 
 -- ---- joined with others

@@ -36,7 +36,7 @@ pub record StandForGroups {S : Type 0} (group : Row → Option ℕ) (count : ℕ
   pub others : rest ≡ ungrouped group rows
 
 -- the lists are the numbers of the groups' rows, and the rest is how many rows are in none
-pub record AreSorted (group : Row → Option ℕ) (count : ℕ) (rows : List Row) (lists : List (List ℕ)) (rest : ℕ) : Type 0 where
+pub record AreListed (group : Row → Option ℕ) (count : ℕ) (rows : List Row) (lists : List (List ℕ)) (rest : ℕ) : Type 0 where
   pub each : AreMade (λ g numbers. numbers ≡ numbers_of (group_rows group g rows)) count lists
   pub others : rest ≡ ungrouped group rows
 

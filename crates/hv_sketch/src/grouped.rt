@@ -4,9 +4,9 @@ ghost use Rattle.std.specs.Prelude.{◌≡◌, ℕ, [], length, IfOk};
 ghost use Rattle.hv_sketch.specs.Groups.{AreMade, CanSum, IsCopy, IsSum, OfPlace, StandForGroups, group_rows, numbers_of};
 
 use crate::group_table::GroupTable;
-use crate::sorting::{Numbers, Sorting};
+use crate::row_lists::Listing;
 use crate::{Groups, Vizketch, gather_rows};
-use hv_value::{Mem, Schema, Table};
+use hv_value::{Listed, Mem, Schema, Table};
 use std::alloc::Global;
 use std::marker::Model;
 
@@ -77,16 +77,16 @@ impl<G: Groups, V: Vizketch> Vizketch for Grouped<G, V> {
         })
     }
 
-    /// Two passes: one sorts the rows' numbers into the groups, the other summarises each group's own rows.
+    /// Two passes: one lists the row numbers of each group, the other summarises each group's own rows.
     fn summarize<T: Table>(&self, alloc: Global, table: &T) -> Mem<Self::Summary> {
-        let sorting = Sorting {
+        let listing = Listing {
             groups: &self.groups,
         };
-        let sorted = gather_rows(alloc, &sorting, table)?;
-        let groups = summaries(alloc, &self.groups, &self.inner, table, &sorted.lists)?;
+        let listed = gather_rows(alloc, &listing, table)?;
+        let groups = summaries(alloc, &self.groups, &self.inner, table, &listed.lists)?;
         Ok(GroupedSummary {
             groups,
-            rest: sorted.rest,
+            rest: listed.rest,
         })
     }
 
@@ -128,10 +128,10 @@ fn summaries<G: Groups, V: Vizketch, T: Table>(
     groups: &G,
     view: &V,
     table: &T,
-    lists: &[Numbers],
+    lists: &[Listed<u32>],
 ) -> Mem<Vec<V::Summary>>
     requires fit { V.fits_columns view.now (T.columns table.now) }
-    requires sorted { AreMade (λ group numbers. numbers ≡ numbers_of (group_rows (G.group_of groups.now) group (T.rows table.now)))
+    requires listed { AreMade (λ group numbers. numbers ≡ numbers_of (group_rows (G.group_of groups.now) group (T.rows table.now)))
         (G.count groups.now) lists.now }
     ensures { IfOk result (λ made. AreMade (λ group s. V.stands view.now (group_rows (G.group_of groups.now) group (T.rows table.now)) s)
         (G.count groups.now) made.items) }

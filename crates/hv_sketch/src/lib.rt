@@ -11,8 +11,8 @@ mod laws;
 mod pair;
 mod parts;
 mod ranking;
+mod row_lists;
 mod sorter;
-mod sorting;
 #[cfg(test)]
 mod tests;
 mod vizketch;
