@@ -6,6 +6,7 @@ pub mod DistinctSums
 pub mod Extremes
 pub mod IsRange
 pub mod Joining
+pub mod NumberRange
 pub mod Range
 pub mod RangeLaws
 pub mod RangeSums
