@@ -1,12 +1,19 @@
-use Rattle.std.proofs.Common.{◌≡◌, ◌++◌, ◌∷◌, ◌∙◌, [], ap, map, refl}
+use Rattle.std.proofs.Common.{◌≡◌, ◌++◌, ◌∷◌, ◌∙◌, [], Option, None, Some, ap, map, refl, subst}
 use Rattle.std.specs.Arc.{arc_value}
 use Rattle.std.proofs.lemmas.List.{map-append}
+use Rattle.hv_value.specs.declared.cell.Kind.{Kind}
+use Rattle.hv_lineage.specs.Refusals.{name_refusal}
 use Rattle.hv_made.proofs.ColumnSteps.{agree-longer}
 use Rattle.hv_made.proofs.derive.derived.Goals as goal
 
 -- the name is one that isn't refused
 pub schema_with-requires : goal.schema_with-requires
-schema_with-requires c = rw (c.into_parts-schema.ensures.schema, c.kind.ensures.value, ← c.in_ok-column.ensures.kind) c.requires.named
+schema_with-requires c =
+    let columns = c.args.table.columns in
+    let name = c.args.name.now in
+    let named : name_refusal columns name (Some c.in_ok-column.column.kind) ≡ None =
+    subst (λ (k : Option Kind). name_refusal columns name k ≡ None) c.in_ok-column.ensures.kind c.requires.named in
+    rw (c.into_parts-schema.ensures.schema, c.kind.ensures.value) named
 
 -- the columns and one more agree with the longer schema
 pub new-requires-2 : goal.new-requires-2
