@@ -15,10 +15,6 @@ use Rattle.hv_expr.proofs.Folds.{fold-Col, fold-Year, fold-Month, fold-Day, fold
 use Rattle.hv_expr.proofs.ReadyFolds.{fold-e-Col, fold-e-Year, fold-e-Month, fold-e-Day, fold-e-Length, fold-e-Linear, fold-e-Join}
 use Rattle.hv_expr.proofs.ReadyLemmas.{place-within}
 
-pub length-value : (cells : List Cell) (of : ReadyExpr) → ready_val cells (ready.Length of) ≡ length_cell (ready_val cells of)
-unfolding ready_val
-length-value cells of = fold-e-Length Cell (ready_node_val cells) of
-
 module _ (columns : Columns) where
   pub ready-col : (name : List ℕ) → IsReadyExpr columns (tree.Col name) (ready.Col (column_place name columns))
   unfolding is_expr_within ready_val val

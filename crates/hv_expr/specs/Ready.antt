@@ -4,10 +4,13 @@ use Rattle.std.specs.Prelude.{◌≡◌, ℕ, length, pos, List, map, Bool, true
 use Rattle.std.specs.List.{list_all, list_any}
 use Rattle.hv_value.specs.declared.cell.Cell.{Cell}
 use Rattle.hv_value.specs.declared.cell.Cell.TheVariants as cell
+use Rattle.hv_value.specs.Cells.{cell_lent}
 use Rattle.hv_value.specs.Schema.{Columns}
 use Rattle.hv_expr.specs.declared.expr.Expr.{Expr}
 use Rattle.hv_expr.specs.declared.pred.Pred.{Pred}
 use Rattle.hv_expr.specs.declared.text_test.TextTest.{TextTest}
+use Rattle.hv_expr.specs.declared.operand.Operand.{Operand}
+use Rattle.hv_expr.specs.declared.operand.Operand.TheVariants as operand
 use Rattle.hv_expr.specs.declared.ready_test.ReadyTest.{ReadyTest}
 use Rattle.hv_expr.specs.declared.ready_pred.ReadyPred.{ReadyPred, fold-ReadyPred}
 use Rattle.hv_expr.specs.declared.ready_pred.ReadyPred.TheOpen.{ReadyPred-F}
@@ -71,6 +74,11 @@ pub record IsReadyPred (columns : Columns) (pred : Pred) (ready : ReadyPred) : T
 pub record AreReadyPreds (columns : Columns) (preds : List Pred) (ready : List ReadyPred) : Type 0 where
   pub within : list_all (is_pred_within (length columns)) ready ≡ true
   pub same : (cells : List Cell) → map (ready_holds cells) ready ≡ map (holds columns cells) preds
+
+-- the cell that an operand is
+abbrev pub operand_cell : Operand → Cell
+operand_cell (operand.Column cell) = cell_lent cell
+operand_cell (operand.Made cell) = cell
 
 -- the value of a prepared node, of its operands' values
 abbrev pub ready_node_val : List Cell → ReadyExpr-F Cell → Cell

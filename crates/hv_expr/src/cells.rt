@@ -22,7 +22,7 @@ use jiff_core::civil::Date;
 use std::alloc::Global;
 use std::cmp::Ordering;
 
-/// Whether a cell isn't missing and is in a relation to another. Two whole numbers take no detour.
+/// Whether a cell isn't missing and is in a relation to another. Two whole numbers or two dates take no detour.
 #[inline]
 #[tactic(auto, unfolding(hv_value::specs::Order::compare_cells))]
 pub(crate) fn is_related(how: Rel, cell: CellRef<'_>, to: &Cell) -> bool
@@ -30,11 +30,12 @@ pub(crate) fn is_related(how: Rel, cell: CellRef<'_>, to: &Cell) -> bool
 {
     match (cell, to) {
         (CellRef::Int(n), Cell::Int(m)) => relates(how, n.cmp(m)),
+        (CellRef::Date(day), Cell::Date(other)) => relates(how, day.cmp(other)),
         (cell, to) => is_other_related(how, cell, to),
     }
 }
 
-/// The same, of cells that needn't be whole numbers.
+/// The same, of cells that needn't be whole numbers or dates.
 #[inline(never)]
 fn is_other_related(how: Rel, cell: CellRef<'_>, to: &Cell) -> bool
     ensures { result ≡ is_related how to.now (cell_lent cell.entry) }

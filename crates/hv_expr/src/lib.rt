@@ -8,6 +8,7 @@ mod check_pred;
 mod error;
 mod eval;
 mod expr;
+mod operand;
 mod pred;
 mod ready_expr;
 mod ready_pred;

@@ -6,13 +6,14 @@ ghost use Rattle.hv_value.specs.Rows.{Row};
 ghost use Rattle.hv_value.specs.Table.{row_from};
 ghost use Rattle.hv_expr.specs.declared.expr.Expr.{Expr};
 ghost use Rattle.hv_expr.specs.Checks.{has_fit_factors};
-ghost use Rattle.hv_expr.specs.Ready.{IsReadyExpr, is_expr_within, ready_val};
-ghost use Rattle.hv_expr.specs.Values.{length_cell, val};
+ghost use Rattle.hv_expr.specs.Ready.{IsReadyExpr, is_expr_within, operand_cell, ready_val};
+ghost use Rattle.hv_expr.specs.Values.{val};
 
 use crate::Expr;
 use crate::cells::{
     cell_at_place, day_cell, join_cells, length_cell, linear_cell, month_cell, year_cell,
 };
+use crate::operand::Operand;
 use hv_value::{Cell, Mem, Schema, Table, Text};
 use sqlite_items::Boxed;
 use std::alloc::Global;
@@ -99,12 +100,12 @@ impl ReadyExpr {
     {
         match self {
             ReadyExpr::Col(place) => Cell::of(alloc, cell_at_place(table, row, *place)),
-            ReadyExpr::Year(of) => Ok(year_cell(of.get().value(alloc, table, row)?.lent())),
-            ReadyExpr::Month(of) => Ok(month_cell(of.get().value(alloc, table, row)?.lent())),
-            ReadyExpr::Day(of) => Ok(day_cell(of.get().value(alloc, table, row)?.lent())),
-            ReadyExpr::Length(of) => length_of(alloc, of.get(), table, row),
+            ReadyExpr::Year(of) => Ok(year_cell(operand(alloc, of.get(), table, row)?.lent())),
+            ReadyExpr::Month(of) => Ok(month_cell(operand(alloc, of.get(), table, row)?.lent())),
+            ReadyExpr::Day(of) => Ok(day_cell(operand(alloc, of.get(), table, row)?.lent())),
+            ReadyExpr::Length(of) => Ok(length_cell(operand(alloc, of.get(), table, row)?.lent())),
             ReadyExpr::Linear { a, b, of } => {
-                let x = of.get().value(alloc, table, row)?;
+                let x = operand(alloc, of.get(), table, row)?;
                 Ok(linear_cell(*a, *b, x.lent()))
             }
             ReadyExpr::Join {
@@ -112,25 +113,25 @@ impl ReadyExpr {
                 between,
                 right,
             } => {
-                let left = left.get().value(alloc, table, row)?;
-                let right = right.get().value(alloc, table, row)?;
+                let left = operand(alloc, left.get(), table, row)?;
+                let right = operand(alloc, right.get(), table, row)?;
                 join_cells(alloc, left.lent(), between.as_str(), right.lent())
             }
         }
     }
 }
 
-/// The length of a value, of which no copy is made where it's a column's.
+/// The value of an operand, of which no copy is made where it's a column's.
 #[cycle(value)]
 #[tactic(auto, using(crate::proofs::ReadyFolds::folds), unfolding(crate::specs::Ready::ready_val, crate::specs::Ready::is_expr_within))]
-fn length_of<T: Table>(alloc: Global, of: &ReadyExpr, table: &T, row: u32) -> Mem<Cell>
+fn operand<'t, T: Table>(alloc: Global, of: &ReadyExpr, table: &'t T, row: u32) -> Mem<Operand<'t>>
     requires row_there { option_map (λ found. found.number) (row_from row (T.rows table.now)) ≡ Some row }
     requires within { is_expr_within (length (T.columns table.now)) of.now ≡ true }
-    ensures { (found : Row) → row_from row (T.rows table.now) ≡ Some found → IfOk result (λ cell. cell ≡ length_cell (ready_val found.cells of.now)) }
+    ensures { (found : Row) → row_from row (T.rows table.now) ≡ Some found → IfOk result (λ held. operand_cell held ≡ ready_val found.cells of.now) }
 {
     match of {
-        ReadyExpr::Col(place) => Ok(length_cell(cell_at_place(table, row, *place))),
-        other => Ok(length_cell(other.value(alloc, table, row)?.lent())),
+        ReadyExpr::Col(place) => Ok(Operand::Column(cell_at_place(table, row, *place))),
+        other => Ok(Operand::Made(other.value(alloc, table, row)?)),
     }
 }
 

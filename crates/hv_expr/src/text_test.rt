@@ -1,6 +1,6 @@
 //! Tests of a text. The definition is `meets` (specs/TextTests.antt).
 
-ghost use Rattle.std.specs.Prelude.{◌≡◌, IfOk, string_bytes};
+ghost use Rattle.std.specs.Prelude.{◌≡◌, false, IfOk, IsOk, string_bytes};
 ghost use Rattle.hv_expr.specs.TextTests.{contains, folded, matches, meets};
 
 use caseless::default_case_fold_str;
@@ -29,7 +29,8 @@ impl TextTest {
     /// Whether a text meets the test. It takes memory only where it folds. Over many texts `ReadyTest` folds the
     /// test's own text once.
     pub fn meets(&self, alloc: Global, text: &str) -> Mem<bool>
-        ensures { IfOk result (λ yes. yes ≡ meets self.now text.now) }
+        ensures value { IfOk result (λ yes. yes ≡ meets self.now text.now) }
+        ensures always { self.now.fold ≡ false → IsOk result }
     {
         if !self.fold {
             return Ok(matches(self.how, self.text.as_str(), text));

@@ -43,6 +43,16 @@ next_from-place from (x ∷ xs) (suc i) parts =
     rw (lt-leb from x first)
     (next_from-place from xs i (λ k d low high. parts.0 (suc k) d (omega arith) (omega arith), λ k d low high. parts.1 (suc k) d (omega arith) (omega arith)))
 
+-- the same place, known by the numbers there and before it
+pub next_from-here : (from : ℕ) (xs : List ℕ) (i : ℕ) → IsRising xs → i < length xs → from ≤ get_or xs i 0
+    → ((k : ℕ) → k < i → get_or xs k 0 < from) → slice_get xs i ≡ next_from from xs
+next_from-here from [] i rising within here before = refl
+next_from-here from (x ∷ xs) zero rising within here before = rw (le-leb from x here)
+next_from-here from (x ∷ xs) (suc i) rising within here before =
+    let first : x < from = before 0 (omega arith) in
+    rw (lt-leb from x first)
+    (next_from-here from xs i rising.1 (omega arith) here (λ k less. before (suc k) (omega arith)))
+
 -- ---- what the search by halves answers
 
 found_or_not : (x : ℕ) (xs : List ℕ) (r : Result ℕ ℕ)

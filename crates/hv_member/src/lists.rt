@@ -1,6 +1,6 @@
 //! Rising lists of numbers: searched by halves, and combined in one pass over both.
 
-ghost use Rattle.std.specs.Prelude.{◌≡◌, length, IfOk};
+ghost use Rattle.std.specs.Prelude.{◌≡◌, length, slice_get, IfOk, IsTrue};
 ghost use Rattle.hv_member.specs.Sets.{is_in, IsRising, IsSetBelow, common, joined, minus, numbers as all_below, next_from};
 
 use hv_value::Mem;
@@ -12,8 +12,54 @@ pub(crate) fn first_from(numbers: &[u32], from: u32) -> Option<u32>
     requires { IsRising numbers.now }
     ensures { result ≡ next_from from numbers.now }
 {
-    let place = numbers.partition_point(|number| *number < from);
+    numbers.get(place_from(numbers, from)).copied()
+}
+
+/// The same as `first_from`, which looks at place `hint` before it searches. The hint moves on to the place after what
+/// was found, so that a walk over rising numbers takes a step for each.
+#[inline(always)]
+pub(crate) fn first_near(numbers: &[u32], from: u32, hint: &mut usize) -> Option<u32>
+    requires { IsRising numbers.now }
+    ensures { result ≡ next_from from numbers.now }
+{
+    let place = place_near(numbers, from, *hint);
+    *hint = place.saturating_add(1);
     numbers.get(place).copied()
+}
+
+/// The place of the first number that is not below `from`, which may be the one after the last. It is looked for at
+/// `guess` first.
+#[inline(always)]
+fn place_near(numbers: &[u32], from: u32, guess: usize) -> usize
+    requires { IsRising numbers.now }
+    ensures { slice_get numbers.now result ≡ next_from from numbers.now }
+{
+    if is_place_from(numbers, from, guess) {
+        guess
+    } else {
+        place_from(numbers, from)
+    }
+}
+
+/// Whether the first number that is not below `from` is there, at this place.
+#[inline(always)]
+fn is_place_from(numbers: &[u32], from: u32, place: usize) -> bool
+    requires { IsRising numbers.now }
+    ensures { IsTrue result → slice_get numbers.now place ≡ next_from from numbers.now }
+{
+    if place >= numbers.len() {
+        return false;
+    }
+    numbers[place] >= from && (place == 0 || numbers[place - 1] < from)
+}
+
+/// The place of the first number that is not below `from`, which may be the one after the last, by halves.
+#[inline(never)]
+fn place_from(numbers: &[u32], from: u32) -> usize
+    requires { IsRising numbers.now }
+    ensures { slice_get numbers.now result ≡ next_from from numbers.now }
+{
+    numbers.partition_point(|number| *number < from)
 }
 
 /// Whether the number is in the list.

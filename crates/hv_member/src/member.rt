@@ -4,7 +4,7 @@
 ghost use Rattle.std.specs.Prelude.{◌≡◌, ℕ, ◌+◌, ◌^◌, ◌<◌, ◌≤◌, List, [], length, ◌&&◌, ◌||◌, not, IfOk};
 ghost use Rattle.hv_member.specs.Sets.{is_in, IsSetBelow, numbers, common, joined, minus, next_from};
 
-use crate::lists::{first_from, has, in_both, in_either, in_left_only, not_in};
+use crate::lists::{first_from, first_near, has, in_both, in_either, in_left_only, not_in};
 use hv_value::Mem;
 use std::alloc::Global;
 use std::marker::Model;
@@ -47,7 +47,7 @@ impl Member {
         }
     }
 
-    /// The rows of a list that strictly rises below `n`.
+    /// The rows of a list that strictly rises below `n`. Memory that it takes is of the list's allocator.
     pub fn from_rows(n: u32, rows: Vec<u32>) -> Mem<Member>
         requires { IsSetBelow n rows.items }
         ensures { IfOk result (λ made. made ≡ record { size = n; rows = rows.items }) }
@@ -98,6 +98,19 @@ impl Member {
             Kept::Full if from < self.size => Some(from),
             Kept::Full => None,
             Kept::Listed(rows) => first_from(rows, from),
+        }
+    }
+
+    /// The same as `next`. A walk over rising rows begins with a `hint` of 0 and hands the same one on to each call,
+    /// which then takes constant time; any other value is only slow.
+    #[inline]
+    pub fn next_near(&self, from: u32, hint: &mut usize) -> Option<u32>
+        ensures { result ≡ next_from from self.now.rows }
+    {
+        match &self.kept {
+            Kept::Full if from < self.size => Some(from),
+            Kept::Full => None,
+            Kept::Listed(rows) => first_near(rows, from, hint),
         }
     }
 

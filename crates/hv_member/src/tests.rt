@@ -144,6 +144,7 @@ fn members_combine_as_their_lists(rt: HostRuntime) -> Result<(), Fail> {
 fn the_next_row_may_be_the_one_asked_for(rt: HostRuntime) -> Result<(), Fail> {
     let some = picked(rt.alloc(), 6, &[1, 3, 5])?;
     let all = Member::full(6);
+    let mut hint = usize::MAX;
     for (from, of_some, of_all) in [
         (0, Some(1), Some(0)),
         (2, Some(3), Some(2)),
@@ -153,6 +154,7 @@ fn the_next_row_may_be_the_one_asked_for(rt: HostRuntime) -> Result<(), Fail> {
         (u32::MAX, None, None),
     ] {
         assert_eq!(rt; some.next(from), of_some, "from {from}");
+        assert_eq!(rt; some.next_near(from, &mut hint), of_some, "from {from}");
         assert_eq!(rt; all.next(from), of_all, "from {from}");
     }
     Ok(())

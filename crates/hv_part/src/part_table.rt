@@ -13,8 +13,8 @@ use hv_value::{CellRef, Schema, Table};
 use std::marker::Model;
 use std::sync::Arc;
 
-/// Some rows of a partition. Each call takes no memory, and constant time but `next_row`, which takes that of
-/// `Member::next`.
+/// Some rows of a partition. Each call takes no memory, and constant time but `next_row` and `next_near`, which take
+/// that of `Member::next` and `Member::next_near`.
 #[derive(Drop)]
 pub struct PartTable {
     schema: Schema,
@@ -54,6 +54,11 @@ impl Table for PartTable {
 
     fn next_row(&self, from: u32) -> Option<u32> {
         self.member.next(from)
+    }
+
+    #[inline]
+    fn next_near(&self, from: u32, hint: &mut usize) -> Option<u32> {
+        self.member.next_near(from, hint)
     }
 
     fn cell(&self, row: u32, col: u32) -> CellRef<'_> {

@@ -63,6 +63,7 @@ fn a_filtered_table_lends_the_cells_of_its_rows(rt: HostRuntime) -> Result<(), M
     assert_eq!(rt; table.member().count(), 2);
     assert_eq!(rt; table.next_row(3), None);
     assert_eq!(rt; table.next_row(1), Some(2));
+    assert_eq!(rt; table.next_near(1, &mut 0), Some(2));
     assert_eq!(rt; table.cell(2, 0), CellRef::Int(-2));
     assert_eq!(rt; table.cell(2, 1), CellRef::Text("c"));
     assert_eq!(rt; table.next_row(0), Some(0));

@@ -10,6 +10,7 @@ use Rattle.hv_value.specs.declared.cell.Cell.{Cell}
 use Rattle.hv_value.specs.declared.cell.Cell.TheVariants as cell
 use Rattle.hv_value.specs.declared.cell.Kind.{Kind}
 use Rattle.hv_value.specs.Cells.{cell_at, is_of_kind}
+use Rattle.hv_value.specs.CellOrder.{compare-days, compare-ints}
 use Rattle.hv_value.specs.Order.{compare_cells}
 use Rattle.hv_value.specs.Rows.{Row}
 use Rattle.hv_value.specs.Schema.{Columns}
@@ -21,20 +22,6 @@ use Rattle.hv_range.specs.Extremes.{greater, lesser}
 not-true : (b : Bool) → not b ≡ true → b ≡ false
 not-true true e = absurd (true≢false (sym e))
 not-true false e = refl
-
-then_nothing : (o : Ordering) → o ≡ ordering_then o Equal
-then_nothing Less = refl
-then_nothing Equal = refl
-then_nothing Greater = refl
-
--- whole numbers, and days, compare as numbers
-pub compare-ints : (m n : ℤ) → compare_cells (cell.Int m) (cell.Int n) ≡ int_cmp m n
-unfolding compare_cells
-compare-ints m n = sym (then_nothing (int_cmp m n))
-
-pub compare-days : (m n : ℤ) → compare_cells (cell.Date m) (cell.Date n) ≡ int_cmp m n
-unfolding compare_cells
-compare-days m n = sym (then_nothing (int_cmp m n))
 
 -- a number that lies between the least and the greatest is neither
 module _ (low n high : ℤ) (b : Bool) (is : b ≡ (not (is_lt (int_cmp n low)) && not (is_lt (int_cmp high n)))) (lies : b ≡ true) where

@@ -11,7 +11,7 @@ use Rattle.hv_value.specs.Order.{compare_cells}
 use Rattle.hv_value.specs.Rows.{Row}
 use Rattle.hv_sketch.specs.Rising.{IsRising, put, put_all, rising}
 use Rattle.hv_sketch.proofs.Least.{joined-longer, least-joined, put-longer, rising-join, rising-more, rising-rises, take-put, take-rises}
-use Rattle.hv_range.specs.CellLaws.{cells_total}
+use Rattle.hv_value.specs.CellOrder.{cells_total}
 use Rattle.hv_range.specs.ColumnCells.{is_missing, values_in}
 use Rattle.hv_range.specs.Distinct.{distinct_of, distinct_values, first_of, kept}
 use Rattle.hv_range.specs.DistinctLaws.{kept_joins, values-append}

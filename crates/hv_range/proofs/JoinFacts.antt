@@ -8,7 +8,7 @@ use Rattle.hv_value.specs.declared.cell.Cell.{Cell}
 use Rattle.hv_value.specs.Order.{compare_cells}
 use Rattle.hv_sketch.specs.Rising.{IsRising, put}
 use Rattle.hv_sketch.proofs.Least.{rising-same, step-greater, step-less, step-tied}
-use Rattle.hv_range.specs.CellLaws.{cells_total}
+use Rattle.hv_value.specs.CellOrder.{cells_total}
 use Rattle.hv_range.specs.Distinct.{kept}
 use Rattle.hv_range.specs.DistinctLaws.{kept_joins}
 use Rattle.hv_range.specs.Joining.{IsFirst}

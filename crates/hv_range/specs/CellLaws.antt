@@ -1,4 +1,4 @@
--- The laws of the order of cells, and of the lesser and the greater of two cells.
+-- The laws of the lesser and the greater of two cells.
 use Rattle.std.proofs.Common.{◌≡◌, refl, sym, ap, ◌∙◌, arith}
 use Rattle.std.proofs.lemmas.Bool.{true≢false}
 use Rattle.std.specs.Prelude.{Bool, true, false, if◌then◌else◌}
@@ -11,53 +11,10 @@ use Rattle.std.specs.declared.cmp.Ordering.TheVariants.{Less, Equal, Greater}
 use Rattle.std.proofs.lemmas.Cmp.{tied_itself, upto}
 use Rattle.hv_value.specs.declared.cell.Cell.{Cell}
 use Rattle.hv_value.specs.declared.cell.Cell.TheVariants as cell
-use Rattle.hv_value.specs.Order.{compare_cells, order_bytes, order_number, variant_place}
+use Rattle.hv_value.specs.CellOrder.{cells_same, cells_total, then_second}
+use Rattle.hv_value.specs.Order.{compare_cells}
 use Rattle.hv_range.specs.ColumnCells.{is_missing}
 use Rattle.hv_range.specs.Extremes.{earlier, greater, lesser, missing_last}
-
--- what a comparison by two orders in turn says of each, where it tells nothing apart
-then_first : (r s : Ordering) → ordering_then r s ≡ Equal → r ≡ Equal
-then_first Less s e = cc e
-then_first Equal s e = refl
-then_first Greater s e = cc e
-
-then_second : (r s : Ordering) → ordering_then r s ≡ Equal → s ≡ Equal
-then_second Less s e = cc e
-then_second Equal s e = e
-then_second Greater s e = cc e
-
--- a cell is told by its variant, its number and its bytes
-same_parts : (x y : Cell) → variant_place x ≡ variant_place y → order_number x ≡ order_number y → order_bytes x ≡ order_bytes y → x ≡ y
-same_parts cell.Missing cell.Missing place number bytes = refl
-same_parts cell.Missing (cell.Int n) place number bytes = absurd (omega (arith, place))
-same_parts cell.Missing (cell.Date n) place number bytes = absurd (omega (arith, place))
-same_parts cell.Missing (cell.Text t) place number bytes = absurd (omega (arith, place))
-same_parts (cell.Int m) cell.Missing place number bytes = absurd (omega (arith, place))
-same_parts (cell.Int m) (cell.Int n) place number bytes = ap cell.Int number
-same_parts (cell.Int m) (cell.Date n) place number bytes = absurd (omega (arith, place))
-same_parts (cell.Int m) (cell.Text t) place number bytes = absurd (omega (arith, place))
-same_parts (cell.Date m) cell.Missing place number bytes = absurd (omega (arith, place))
-same_parts (cell.Date m) (cell.Int n) place number bytes = absurd (omega (arith, place))
-same_parts (cell.Date m) (cell.Date n) place number bytes = ap cell.Date number
-same_parts (cell.Date m) (cell.Text t) place number bytes = absurd (omega (arith, place))
-same_parts (cell.Text s) cell.Missing place number bytes = absurd (omega (arith, place))
-same_parts (cell.Text s) (cell.Int n) place number bytes = absurd (omega (arith, place))
-same_parts (cell.Text s) (cell.Date n) place number bytes = absurd (omega (arith, place))
-same_parts (cell.Text s) (cell.Text t) place number bytes = ap cell.Text bytes
-
-pub cells_total : IsTotalOrder compare_cells
-unfolding compare_cells
-cells_total =
-    then_total (on_total variant_place nat_cmp_total)
-    (then_total (on_total order_number int_cmp_total) (on_total order_bytes nat_list_cmp_total))
-
--- cells that tie are equal
-pub cells_same : IsAntisymmetric compare_cells
-unfolding compare_cells
-cells_same x y e =
-    let rest = then_second _ _ e in
-    same_parts x y (nat_cmp-IsAntisymmetric _ _ (then_first _ _ e)) (int_cmp-IsAntisymmetric _ _ (then_first _ _ rest))
-    (slice_cmp-IsAntisymmetric nat_cmp-IsAntisymmetric _ _ (then_second _ _ rest))
 
 pub missing_last_total : IsTotalOrder missing_last
 missing_last_total = then_total (on_total is_missing bool_cmp_total) cells_total

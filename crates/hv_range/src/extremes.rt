@@ -17,17 +17,6 @@ fn in_order(m: i64, n: i64) -> Ordering
     m.cmp(&n)
 }
 
-/// How two cells compare, by their numbers alone where both are of whole numbers or of days.
-pub(crate) fn order(a: CellRef<'_>, b: CellRef<'_>) -> Ordering
-    ensures { result ≡ compare_cells (cell_lent a.entry) (cell_lent b.entry) }
-{
-    match (a, b) {
-        (CellRef::Int(m), CellRef::Int(n)) => in_order(m, n),
-        (CellRef::Date(m), CellRef::Date(n)) => in_order(i64::from(m), i64::from(n)),
-        _ => compare(a, b),
-    }
-}
-
 /// Whether a cell is less than the least so far, which is missing where there was none.
 fn is_lower(cell: CellRef<'_>, least: CellRef<'_>) -> bool
     ensures { result ≡ is_lt (missing_last (cell_lent cell.entry) (cell_lent least.entry)) }
@@ -35,7 +24,7 @@ fn is_lower(cell: CellRef<'_>, least: CellRef<'_>) -> bool
     match (cell, least) {
         (CellRef::Missing, _) => false,
         (_, CellRef::Missing) => true,
-        _ => order(cell, least).is_lt(),
+        _ => compare(cell, least).is_lt(),
     }
 }
 
@@ -43,7 +32,7 @@ fn is_lower(cell: CellRef<'_>, least: CellRef<'_>) -> bool
 fn is_higher(cell: CellRef<'_>, greatest: CellRef<'_>) -> bool
     ensures { result ≡ is_lt (compare_cells (cell_lent greatest.entry) (cell_lent cell.entry)) }
 {
-    order(greatest, cell).is_lt()
+    compare(greatest, cell).is_lt()
 }
 
 /// Whether a number is neither below the one nor above the other.

@@ -9,8 +9,7 @@ ghost use Rattle.hv_sketch.specs.Rising.{IsRising, put, put_all};
 ghost use Rattle.hv_range.specs.Distinct.{kept};
 ghost use Rattle.hv_range.specs.Joining.{IsFirst};
 
-use crate::extremes::order;
-use hv_value::{Cell, CellRef, Mem};
+use hv_value::{Cell, CellRef, Mem, compare};
 use std::alloc::Global;
 use std::cmp::Ordering;
 use std::marker::Model;
@@ -110,7 +109,7 @@ pub(crate) fn place_of(cells: &[Cell], cell: CellRef<'_>) -> Result<usize, usize
 fn order_to(other: &Cell, cell: CellRef<'_>) -> Ordering
     ensures { result ≡ compare_cells other.now (cell_lent cell.entry) }
 {
-    order(other.lent(), cell)
+    compare(other.lent(), cell)
 }
 
 /// Whether a cell is above the last of a rising list, which isn't empty.
@@ -155,7 +154,7 @@ fn first_of<'a>(a: &'a [Cell], b: &'a [Cell]) -> Option<(&'a Cell, &'a [Cell], &
     let [y, after_y @ ..] = b else {
         return Some((x, after_x, b));
     };
-    Some(match order(x.lent(), y.lent()) {
+    Some(match compare(x.lent(), y.lent()) {
         Ordering::Less => (x, after_x, b),
         Ordering::Equal => (y, after_x, after_y),
         Ordering::Greater => (y, a, after_y),

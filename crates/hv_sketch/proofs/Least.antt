@@ -7,13 +7,7 @@ use Rattle.std.specs.Ordering.{ordering_reverse, match_ordering}
 use Rattle.std.specs.declared.cmp.Ordering.{Ordering}
 use Rattle.std.specs.declared.cmp.Ordering.TheVariants.{Less, Equal, Greater}
 use Rattle.std.proofs.lemmas.Cmp.{alike_right, tied_back}
-use Rattle.hv_sketch.specs.Rising.{IsAbove, IsRising, put, put_all, rising}
-
--- joining two elements that tie keeps their place in the order, in any order and any grouping
-pub record JoinsTies {X : Type 0} (cmp : X → X → Ordering) (join : X → X → X) : Type 0 where
-  pub same : (x y z : X) → cmp x y ≡ Equal → cmp (join x y) z ≡ cmp x z
-  pub turn : (x y : X) → cmp x y ≡ Equal → join x y ≡ join y x
-  pub regroup : (x y z : X) → cmp x y ≡ Equal → cmp y z ≡ Equal → join x (join y z) ≡ join (join x y) z
+use Rattle.hv_sketch.specs.Rising.{IsAbove, IsRising, JoinsTies, put, put_all, rising}
 
 -- how an element of a rising list compares with one that is put into it
 module _ {X : Type 0} (cmp : X → X → Ordering) (join : X → X → X) where
@@ -308,3 +302,9 @@ module _ {X : Type 0} (cmp : X → X → Ordering) (join : X → X → X) (order
     where
       rising-of : (s t : List X) → IsRising cmp t → rising cmp join (s ++ t) ≡ put_all cmp join s t
       rising-of s t rises = put_all-join cmp join s t [] ∙ ap (put_all cmp join s) (rising-same t rises)
+
+  -- and by joining those two lists
+  pub least-of_joined : (k : ℕ) (a b : List X)
+      → take k (rising cmp join (a ++ b)) ≡ take k (put_all cmp join (take k (rising cmp join a)) (take k (rising cmp join b)))
+  least-of_joined k a b =
+      ap (take k) (rising-join a b) ∙ least-joined k (rising cmp join a) (rising cmp join b) (rising-rises a) (rising-rises b)

@@ -1,6 +1,7 @@
 pub mod AnyOrder
 pub mod Apart
 pub mod GatherFacts
+pub mod JoinFacts
 pub mod Least
 pub mod PartsFacts
 pub mod Places

@@ -1,5 +1,5 @@
 -- Where a binary search in a rising list finds an element, or the place for it, and what a put does there.
-use Rattle.std.proofs.Common.{◌≡◌, ◌<◌, ◌≤◌, ◌+◌, ℕ, zero, suc, List, [], ◌∷◌, refl, sym, ap, length, get_or, set, arith, ◌∙◌, Result, Ok, Err}
+use Rattle.std.proofs.Common.{◌≡◌, ◌<◌, ◌≤◌, ◌+◌, ℕ, zero, suc, List, [], ◌∷◌, refl, sym, ap, length, get_or, set, arith, ◌∙◌, Result, Ok, Err, IfOk, IfErr}
 use Rattle.std.specs.Cmp.{IsTotalOrder}
 use Rattle.std.specs.List.{insert}
 use Rattle.std.specs.List.Sorted.{IsBinarySearchResult, IsSearchInRange, IsSortedBy}
@@ -8,6 +8,7 @@ use Rattle.std.specs.Result.{MatchResult}
 use Rattle.std.specs.declared.cmp.Ordering.{Ordering}
 use Rattle.std.specs.declared.cmp.Ordering.TheVariants.{Less, Equal, Greater}
 use Rattle.std.proofs.lemmas.Cmp.{alike_right, tied_back}
+use Rattle.std.proofs.lemmas.List.{set-get_or}
 use Rattle.std.proofs.lemmas.List.Sorted.{searchable_from_sorted}
 use Rattle.hv_sketch.specs.Rising.{IsAbove, IsRising, put}
 use Rattle.hv_sketch.proofs.Least.{put-first, put-past, put-tied}
@@ -76,3 +77,25 @@ module _ {X : Type 0} (cmp : X → X → Ordering) (join : X → X → X) (order
   searched x xs (Err i) rises within parted =
       let parts = parted (searchable_from_sorted order (λ y. y) xs x (rising-sorted xs rises)) in
       (within, put-between x xs i within (λ k d lt. parts.0 k d (omega arith) lt) parts.1)
+
+-- what such a search tells, a clause for each outcome
+module _ {X : Type 0} (cmp : X → X → Ordering) (join : X → X → X) where
+  -- the element ties with one there, or has a place
+  abbrev Told : X → List X → Result ℕ ℕ → Type 0
+  Told x xs r =
+      MatchResult r (λ i. put cmp join x xs ≡ set xs i (join x (get_or xs i x))) (λ i. (i ≤ length xs) × (put cmp join x xs ≡ insert xs i x))
+
+  -- where of two that tie the one that was there stays, one that ties is put in without a change
+  pub search_there : (x : X) (xs : List X) (r : Result ℕ ℕ) → ((y : X) → join x y ≡ y) → Told x xs r → IfOk r (λ _. put cmp join x xs ≡ xs)
+  search_there x xs (Ok i) stays found = found ∙ ap (set xs i) (stays (get_or xs i x)) ∙ set-get_or xs i x
+  search_there x xs (Err i) stays found = tt
+
+  -- any other has a place in the list or at its end
+  pub search_within : (x : X) (xs : List X) (r : Result ℕ ℕ) → Told x xs r → IfErr r (λ i. i ≤ length xs)
+  search_within x xs (Ok i) found = tt
+  search_within x xs (Err i) found = found.0
+
+  -- and is put in there
+  pub search_place : (x : X) (xs : List X) (r : Result ℕ ℕ) → Told x xs r → IfErr r (λ i. put cmp join x xs ≡ insert xs i x)
+  search_place x xs (Ok i) found = tt
+  search_place x xs (Err i) found = found.1

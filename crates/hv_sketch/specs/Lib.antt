@@ -1,5 +1,9 @@
+pub mod ColumnCells
 pub mod Columns
 pub mod Gathering
+pub mod Joining
 pub mod Merging
 pub mod Parts
 pub mod Rising
+pub mod Tally
+pub mod TallyLaws

@@ -2,7 +2,7 @@
 use Rattle.std.specs.Prelude.{List, [], ◌∷◌, ◌≡◌}
 use Rattle.std.specs.Ordering.{match_ordering}
 use Rattle.std.specs.declared.cmp.Ordering.{Ordering}
-use Rattle.std.specs.declared.cmp.Ordering.TheVariants.{Less}
+use Rattle.std.specs.declared.cmp.Ordering.TheVariants.{Less, Equal}
 
 -- an element is below the first of a list, where there is one
 abbrev pub IsAbove : {X : Type 0} → (X → X → Ordering) → X → List X → Type 0
@@ -28,3 +28,9 @@ module _ {X : Type 0} (cmp : X → X → Ordering) (join : X → X → X) where
   -- the rising list of a list's elements, those that tie joined
   abbrev pub rising : List X → List X
   rising xs = put_all xs []
+
+-- joining two elements that tie keeps their place in the order, in any order and any grouping
+pub record JoinsTies {X : Type 0} (cmp : X → X → Ordering) (join : X → X → X) : Type 0 where
+  pub same : (x y z : X) → cmp x y ≡ Equal → cmp (join x y) z ≡ cmp x z
+  pub turn : (x y : X) → cmp x y ≡ Equal → join x y ≡ join y x
+  pub regroup : (x y z : X) → cmp x y ≡ Equal → cmp y z ≡ Equal → join x (join y z) ≡ join (join x y) z

@@ -2,15 +2,21 @@
 #![tactic(auto)]
 
 mod columns;
+mod counts;
 mod gather;
 mod laws;
 mod parts;
+mod ranking;
+mod sorter;
 #[cfg(test)]
 mod tests;
 mod vizketch;
 
 pub use columns::is_column_of;
+pub use counts::Counts;
 pub use gather::{Gather, gather_rows};
-pub use laws::order_is_free;
+pub use laws::{least_of_pieces, order_is_free};
 pub use parts::add_part;
+pub use ranking::{Ranking, joined};
+pub use sorter::{Sorter, add_tally, empty_tally, tally};
 pub use vizketch::Vizketch;

@@ -1,7 +1,10 @@
 //! A second view beside the range, the count of rows, and columns as views ask for them.
 
-use crate::{Gather, Vizketch, gather_rows, is_column_of, order_is_free};
-use hv_value::{Kind, Mem, Schema, Table, Text};
+use crate::{
+    Counts, Gather, Sorter, Vizketch, add_tally, empty_tally, gather_rows, is_column_of,
+    order_is_free, tally,
+};
+use hv_value::{CellRef, Kind, Mem, Schema, Table, Text};
 use std::alloc::Global;
 use std::test::Fail;
 
@@ -64,6 +67,77 @@ impl Vizketch for RowCount {
     ghost any_order = { λ view a b c count h. Prim.grind (arith, length-append) };
 }
 
+/// A chart of two slots: the cells of a column that are missing, and the others.
+#[derive(Drop)]
+struct Presence {
+    col: u32,
+}
+
+impl Sorter for Presence {
+    ghost use Rattle.std.specs.Prelude.{cond};
+    ghost use Rattle.hv_value.specs.declared.cell.Kind.TheVariants as kind;
+    ghost use Rattle.hv_value.specs.Cells.{cell_at};
+    ghost use Rattle.hv_sketch.specs.ColumnCells.{is_missing};
+    ghost use Rattle.hv_sketch.specs.Columns.{IsColumnOf};
+
+    ghost slots = { λ view. 2 };
+
+    ghost slot = { λ view row. cond (is_missing (cell_at row.cells view.col)) 0 1 };
+
+    ghost takes = { λ view columns. IsColumnOf columns view.col kind.Int };
+
+    fn slots(&self) -> usize {
+        2
+    }
+
+    #[inline(always)]
+    fn slot<T: Table>(&self, table: &T, row: u32) -> usize {
+        match table.cell(row, self.col) {
+            CellRef::Missing => 0,
+            _ => 1,
+        }
+    }
+}
+
+impl Vizketch for Presence {
+    ghost use Rattle.std.specs.Prelude.{cond, ⊤};
+    ghost use Rattle.hv_value.specs.declared.cell.Kind.TheVariants as kind;
+    ghost use Rattle.hv_sketch.specs.Columns.{IsColumnOf};
+    ghost use Rattle.hv_sketch.specs.Tally.{IsTally};
+    ghost use Rattle.hv_sketch.specs.TallyLaws.{IsTally-swap};
+
+    type Summary = Counts;
+
+    ghost stands = { λ view rows counts. IsTally (⟦<Presence as Sorter>⟧.slots view) (⟦<Presence as Sorter>⟧.slot view) rows counts };
+
+    ghost fits_columns = { λ view columns. IsColumnOf columns view.col kind.Int };
+
+    ghost merges_always = { λ view. ⊤ };
+
+    fn fits(&self, schema: &Schema) -> bool {
+        is_column_of(schema, self.col, Kind::Int)
+    }
+
+    fn zero(&self, alloc: Global) -> Mem<Counts> {
+        empty_tally(alloc, self)
+    }
+
+    fn summarize<T: Table>(&self, alloc: Global, table: &T) -> Mem<Counts> {
+        tally(alloc, self, table)
+    }
+
+    fn merge_into(&self, _alloc: Global, acc: &mut Counts, d: &Counts) -> Mem<()> {
+        add_tally(self, acc, d);
+        Ok(())
+    }
+
+    fn copy(&self, alloc: Global, s: &Counts) -> Mem<Counts> {
+        s.copy(alloc)
+    }
+
+    ghost any_order = { λ view a b c counts h. IsTally-swap _ _ a b c counts h };
+}
+
 #[test]
 fn an_empty_summary_stays_empty(rt: HostRuntime) -> Result<(), Fail> {
     let view = RowCount;
@@ -84,5 +158,15 @@ fn a_column_is_there_and_of_the_kind(rt: HostRuntime) -> Result<(), Fail> {
         assert_eq!(rt; is_column_of(&schema, col, Kind::Int), want, "at {col}");
     }
     assert!(rt; RowCount.fits(&schema));
+    Ok(())
+}
+
+#[test]
+fn counts_add_up(rt: HostRuntime) -> Result<(), Fail> {
+    let view = Presence { col: 0 };
+    let mut acc = view.zero(rt.alloc())?;
+    let other = view.zero(rt.alloc())?;
+    view.merge_into(rt.alloc(), &mut acc, &other)?;
+    assert_eq!(rt; acc.as_slice(), [0, 0].as_slice());
     Ok(())
 }

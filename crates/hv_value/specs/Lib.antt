@@ -1,10 +1,13 @@
 pub mod Catalog
+pub mod CellOrder
 pub mod Cells
 pub mod Civil
 pub mod Codes
 pub mod Days
 pub mod Number
 pub mod Order
+pub mod OrderLaws
+pub mod Orders
 pub mod Schema
 pub mod Rows
 pub mod Same

@@ -1,6 +1,7 @@
 //! The order of cells. The definition is `compare_cells` (specs/Order.antt).
 
 ghost use Rattle.std.specs.Prelude.{◌≡◌};
+ghost use Rattle.std.specs.Ordering.{int_cmp};
 ghost use Rattle.hv_value.specs.Cells.{cell_lent};
 ghost use Rattle.hv_value.specs.Order.{compare_cells, order_bytes, order_number, variant_place};
 
@@ -8,9 +9,26 @@ use crate::CellRef;
 use std::cmp::Ordering;
 
 /// How two cells compare: missing is the least; whole numbers and days order by number, texts by bytes, and
-/// cells of two kinds as their variants stand in `Cell`.
-#[tactic(auto, unfolding(crate::specs::Order::compare_cells))]
+/// cells of two kinds as their variants stand in `Cell`. Two whole numbers, or two days, cost one comparison.
 pub fn compare(a: CellRef<'_>, b: CellRef<'_>) -> Ordering
+    ensures { result ≡ compare_cells (cell_lent a.entry) (cell_lent b.entry) }
+{
+    match (a, b) {
+        (CellRef::Int(m), CellRef::Int(n)) => by_number(m, n),
+        (CellRef::Date(m), CellRef::Date(n)) => by_number(i64::from(m), i64::from(n)),
+        _ => by_parts(a, b),
+    }
+}
+
+fn by_number(m: i64, n: i64) -> Ordering
+    ensures { result ≡ int_cmp m n }
+{
+    m.cmp(&n)
+}
+
+/// How any two cells compare: by their variants' places, their numbers and their texts in turn.
+#[tactic(auto, unfolding(crate::specs::Order::compare_cells))]
+fn by_parts(a: CellRef<'_>, b: CellRef<'_>) -> Ordering
     ensures { result ≡ compare_cells (cell_lent a.entry) (cell_lent b.entry) }
 {
     let texts = text_of(a).cmp(text_of(b));

@@ -1,11 +1,6 @@
-use Rattle.std.proofs.Common.{◌∙◌, ltb, rules}
-use Rattle.std.proofs.lemmas.List.Sorted.{IsPartitionedBy-ltb, IsPartitionPoint-from_clause}
-use Rattle.hv_member.proofs.SearchLemmas.{IsNonDecreasing-rising, next_from-place, copied-get}
+use Rattle.std.proofs.Common.{◌∙◌}
+use Rattle.hv_member.proofs.SearchLemmas.{copied-get}
 use Rattle.hv_member.proofs.lists.first_from.Goals as goal
 
 pub returns : goal.returns
-returns c =
-    let parted = IsPartitionedBy-ltb (λ x. x) _ c.args.from (IsNonDecreasing-rising _ c.requires) in
-    c.copied.ensures ∙ copied-get _ _ _ c.get.ensures.lookup.0 c.get.ensures.lookup.1
-    ∙ next_from-place _ _ _
-    (IsPartitionPoint-from_clause (λ x. ltb x c.args.from) _ _ c.partition_point-place.ensures.partitioned parted (λ a r q k. search rules))
+returns c = c.copied.ensures ∙ copied-get _ _ _ c.get.ensures.lookup.0 c.get.ensures.lookup.1 ∙ c.place_from.ensures

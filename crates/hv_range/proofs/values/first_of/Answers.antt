@@ -14,8 +14,8 @@ pub returns-clause-some : goal.returns-clause-some
 returns-clause-some c =
     let front = front_at _ _ c.in-len1-up.len_at_least c.x-item.is in
     let other = front_at _ _ c.in-len1-up-b-2.len_at_least c.y-item-2.is in
-    let told = rw (c.lent.ensures, c.lent-2.ensures) at c.order.ensures in
-    elim c.match-order.branch [
+    let told = rw (c.lent.ensures, c.lent-2.ensures) at c.compare.ensures in
+    elim c.match-compare.branch [
       | in-Less w ↦ rw w.result-is (first_less _ _ _ _ _ _ front other c.requires.left c.requires.right (sym told ∙ w.in-Less.is))
       | in-Equal w ↦ rw w.result-is (first_tied _ _ _ _ _ _ front other c.requires.left c.requires.right (sym told ∙ w.in-Equal.is))
       | in-Greater w ↦ rw w.result-is (first_greater _ _ _ _ _ _ front other c.requires.left c.requires.right (sym told ∙ w.in-Greater.is))

@@ -1,7 +1,8 @@
 use Rattle.std.proofs.Common.{◌-◌, length, sym, ◌∙◌, arith}
 use Rattle.hv_value.specs.Order.{compare_cells}
 use Rattle.hv_sketch.proofs.Places.{put-last}
-use Rattle.hv_range.specs.CellLaws.{cells_total, is-less}
+use Rattle.hv_value.specs.CellOrder.{cells_total}
+use Rattle.hv_range.specs.CellLaws.{is-less}
 use Rattle.hv_range.specs.Distinct.{kept}
 use Rattle.hv_range.proofs.values.is_above.Goals as goal
 

@@ -3,7 +3,7 @@ use Rattle.std.proofs.lemmas.Fn.{always_returns_same}
 use Rattle.hv_value.specs.Cells.{cell_lent}
 use Rattle.hv_value.specs.Order.{compare_cells}
 use Rattle.hv_sketch.proofs.Places.{searched}
-use Rattle.hv_range.specs.CellLaws.{cells_total}
+use Rattle.hv_value.specs.CellOrder.{cells_total}
 use Rattle.hv_range.specs.Distinct.{kept}
 use Rattle.hv_range.proofs.JoinFacts.{search_place, search_there, search_within}
 use Rattle.hv_range.proofs.values.place_of.Goals as goal

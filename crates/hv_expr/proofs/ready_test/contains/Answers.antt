@@ -1,0 +1,6 @@
+use Rattle.std.proofs.Common.{◌∙◌}
+use Rattle.hv_expr.proofs.ContainsLemmas.{contains-found}
+use Rattle.hv_expr.proofs.ready_test.contains.Goals as goal
+
+pub returns : goal.returns
+returns c = c.is_some.ensures ∙ contains-found c.args.search.now c.args.text.now c.find.result c.find.ensures
