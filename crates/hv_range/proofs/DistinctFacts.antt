@@ -34,6 +34,15 @@ module _ (k : ℕ) (values : List Cell) where
   still_more : (longer : List Cell) → nat_lt k (length values) ≡ true → length values ≤ length longer → nat_lt k (length longer) ≡ true
   still_more longer e le = lt-ltb k (length longer) (omega (arith, ltb-true k (length values) e, le))
 
+-- one value past the k least tells whether there are more
+pub first_of-cut : (k : ℕ) (values cut : List Cell) (s : DistinctSummary) → cut ≡ take (k + 1) values → s.values ≡ take k cut
+    → s.more ≡ nat_lt k (length cut) → s ≡ first_of k values
+first_of-cut k values cut s is few more =
+    same _ _ _ _ (few ∙ ap (take k) is ∙ take-take k (k + 1) values (omega arith)) (more ∙ ap (λ l. nat_lt k (length l)) is ∙ told)
+  where
+    told : nat_lt k (length (take (k + 1) values)) ≡ nat_lt k (length values)
+    told = let cut = length-take (k + 1) values in grind (arith, nat_tests)
+
 module _ (k : ℕ) (c : Cell) (values : List Cell) where
   -- a value that is among the k least changes nothing
   pub first_of-same : put compare_cells kept c (take k values) ≡ take k values → first_of k (put compare_cells kept c values) ≡ first_of k values

@@ -4,8 +4,8 @@ use Rattle.std.specs.Prelude.{not, filter}
 use Rattle.std.proofs.lemmas.List.Elements.{filter-append}
 use Rattle.hv_value.specs.Order.{compare_cells}
 use Rattle.hv_value.specs.Rows.{Row}
-use Rattle.hv_sketch.proofs.Least.{JoinsTies, rising-swap}
-use Rattle.hv_sketch.specs.Rising.{rising}
+use Rattle.hv_sketch.proofs.Least.{rising-swap}
+use Rattle.hv_sketch.specs.Rising.{JoinsTies, rising}
 use Rattle.hv_value.specs.CellOrder.{cells_same, cells_total}
 use Rattle.hv_range.specs.ColumnCells.{cells_in, is_missing, values_in}
 use Rattle.hv_range.specs.Distinct.{distinct_of, first_of, kept}

@@ -5,7 +5,7 @@ pub mod DistinctLaws
 pub mod DistinctSums
 pub mod Extremes
 pub mod IsRange
-pub mod Joining
+pub mod NumberRange
 pub mod Range
 pub mod RangeLaws
 pub mod RangeSums

@@ -12,7 +12,7 @@ ghost use Rattle.hv_range.specs.DistinctSums.{distinct_sum, with_inserted};
 
 use crate::Values;
 use crate::values::{joined, place_of};
-use hv_value::{CellRef, Mem};
+use hv_value::{Cell, CellRef, Mem};
 use std::alloc::Global;
 
 /// The least different values of a column, rising, at most some number of them, and whether there are more.
@@ -97,11 +97,22 @@ pub(crate) fn sum(
     requires right { IsRising compare_cells b.now.values }
     ensures { IfOk result (λ s. s ≡ distinct_sum k a.now b.now) }
 {
-    let mut values = joined(alloc, a.values.as_slice(), b.values.as_slice())?;
-    let over = values.as_slice().len() > k as usize;
-    values.truncate(k as usize);
+    let least = least_of(alloc, a.values.as_slice(), b.values.as_slice(), k)?;
     Ok(DistinctSummary {
-        values,
-        more: a.more || b.more || over,
+        values: least.values,
+        more: a.more || b.more || least.more,
     })
+}
+
+/// The `k` least values of two rising lists, and whether they have more.
+fn least_of(alloc: Global, a: &[Cell], b: &[Cell], k: u32) -> Mem<DistinctSummary>
+    requires left { IsRising compare_cells a.now }
+    requires right { IsRising compare_cells b.now }
+    ensures { IfOk result (λ s. s ≡ first_of k (put_all compare_cells kept a.now b.now)) }
+{
+    let k = k as usize;
+    let mut values = joined(alloc, a, b, k + 1)?;
+    let more = values.as_slice().len() > k;
+    values.truncate(k);
+    Ok(DistinctSummary { values, more })
 }

@@ -11,7 +11,9 @@ use hv_value::{Cell, CellRef, Mem, compare};
 use std::alloc::Global;
 use std::cmp::Ordering;
 
-fn in_order(m: i64, n: i64) -> Ordering
+/// How two numbers compare.
+#[inline(always)]
+pub(crate) fn in_order(m: i64, n: i64) -> Ordering
     ensures { result ≡ int_cmp m n }
 {
     m.cmp(&n)
@@ -59,6 +61,7 @@ fn is_between(cell: CellRef<'_>, least: &Cell, greatest: &Cell) -> bool
 }
 
 /// Makes `least` the lesser of itself and a cell, and `greatest` the greater.
+#[inline(always)]
 pub(crate) fn widen(
     alloc: Global,
     least: &mut Cell,

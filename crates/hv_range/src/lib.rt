@@ -5,6 +5,7 @@
 mod distinct;
 mod distinct_summary;
 mod extremes;
+mod numbers;
 mod range;
 mod summary;
 #[cfg(test)]

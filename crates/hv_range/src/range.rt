@@ -1,8 +1,11 @@
 //! The range of a column as a vizketch. Its summary stands for rows where it is their range (specs/IsRange.antt).
 
-ghost use Rattle.std.specs.Prelude.{◌≡◌};
+ghost use Rattle.std.specs.Prelude.{◌≡◌, IfOk};
+ghost use Rattle.hv_sketch.specs.Columns.{IsColumnOf};
+ghost use Rattle.hv_range.specs.IsRange.{IsRange, TakesNoMemory};
 
 use crate::RangeSummary;
+use crate::numbers::NumberRange;
 use crate::summary::{add_cell, sum};
 use hv_sketch::{Gather, Vizketch, gather_rows, is_column_of};
 use hv_value::{Kind, Mem, Schema, Table};
@@ -23,6 +26,54 @@ impl Range {
     {
         Range { col, kind }
     }
+
+    /// The range of a table's column of whole numbers or of days.
+    fn summary_by_numbers<T: Table>(&self, alloc: Global, table: &T) -> Mem<RangeSummary>
+        requires column { IsColumnOf (T.columns table.now) self.now.col self.now.kind }
+        requires free { TakesNoMemory self.now.kind }
+        ensures { IfOk result (λ s. IsRange self.now.kind self.now.col (T.rows table.now) s) }
+    {
+        let view = ByNumbers {
+            col: self.col,
+            kind: self.kind,
+        };
+        Ok(gather_rows(alloc, &view, table)?.summary(self.kind))
+    }
+}
+
+/// The range of one column of whole numbers or of days, gathered by its numbers alone.
+#[derive(Clone, Copy)]
+struct ByNumbers {
+    col: u32,
+    kind: Kind,
+}
+
+impl Gather for ByNumbers {
+    ghost use Rattle.hv_sketch.specs.Columns.{IsColumnOf};
+    ghost use Rattle.hv_range.specs.IsRange.{IsRange, TakesNoMemory};
+    ghost use Rattle.hv_range.specs.NumberRange.{range_kept};
+
+    type Gathered = NumberRange;
+
+    ghost gathers = { λ view part rows kept. IsRange view.kind view.col rows (range_kept view.kind kept) };
+
+    ghost takes = { λ view columns. IsColumnOf columns view.col view.kind × TakesNoMemory view.kind };
+
+    fn start<T: Table>(&self, _alloc: Global, _table: &T) -> Mem<NumberRange> {
+        Ok(NumberRange::empty())
+    }
+
+    #[inline(always)]
+    fn add_row<T: Table>(
+        &self,
+        _alloc: Global,
+        kept: &mut NumberRange,
+        table: &T,
+        row: u32,
+    ) -> Mem<()> {
+        kept.add_cell(table.cell(row, self.col));
+        Ok(())
+    }
 }
 
 impl Gather for Range {
@@ -39,6 +90,7 @@ impl Gather for Range {
         Ok(RangeSummary::empty())
     }
 
+    #[inline(always)]
     fn add_row<T: Table>(
         &self,
         alloc: Global,
@@ -72,7 +124,10 @@ impl Vizketch for Range {
     }
 
     fn summarize<T: Table>(&self, alloc: Global, table: &T) -> Mem<RangeSummary> {
-        gather_rows(alloc, self, table)
+        match self.kind {
+            Kind::Text => gather_rows(alloc, self, table),
+            Kind::Int | Kind::Date => self.summary_by_numbers(alloc, table),
+        }
     }
 
     fn merge_into(&self, alloc: Global, acc: &mut RangeSummary, d: &RangeSummary) -> Mem<()> {

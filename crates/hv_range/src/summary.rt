@@ -84,6 +84,7 @@ fn number_of(cell: CellRef<'_>) -> i64
 }
 
 /// Adds a cell to the range of some rows. A text is copied only where it is a new least or greatest.
+#[inline(always)]
 pub(crate) fn add_cell(alloc: Global, kept: &mut RangeSummary, cell: CellRef<'_>) -> Mem<()>
     requires { FitsSigned w64 (number_of (cell_lent cell)) → CanAdd kept.old (cell_range (cell_lent cell)) }
     ensures value { OnOk result (kept.new ≡ range_sum kept.old (cell_range (cell_lent cell.entry))) }

@@ -1,14 +1,14 @@
 //! Lists of cells, and rising lists of them: where a cell stands in one, and two joined. Contracts see `Values` as
 //! its list of cells; `put` and `put_all` are those of `hv_sketch` (specs/Rising.antt).
 
-ghost use Rattle.std.specs.Prelude.{◌≡◌, ◌≤◌, [], ◌∷◌, ◌++◌, length, take, IfOk, IfErr, IfSome, IsNone, IsTrue, OnOk};
+ghost use Rattle.std.specs.Prelude.{◌≡◌, ◌≤◌, [], ◌∷◌, ◌++◌, length, take, IfOk, IfErr, IsTrue, OnOk};
 ghost use Rattle.std.specs.List.{insert};
 ghost use Rattle.hv_value.specs.Cells.{cell_lent};
 ghost use Rattle.hv_value.specs.Order.{compare_cells};
 ghost use Rattle.hv_sketch.specs.Rising.{IsRising, put, put_all};
 ghost use Rattle.hv_range.specs.Distinct.{kept};
-ghost use Rattle.hv_range.specs.Joining.{IsFirst};
 
+use hv_sketch::Ranking;
 use hv_value::{Cell, CellRef, Mem, compare};
 use std::alloc::Global;
 use std::cmp::Ordering;
@@ -122,41 +122,45 @@ fn is_above(cells: &[Cell], cell: CellRef<'_>) -> bool
     count > 0 && order_to(&cells[count - 1], cell).is_lt()
 }
 
-/// Two rising lists joined, each cell that is in both once.
-pub(crate) fn joined(alloc: Global, a: &[Cell], b: &[Cell]) -> Mem<Values>
-    requires left { IsRising compare_cells a.now }
-    requires right { IsRising compare_cells b.now }
-    ensures { IfOk result (λ values. values ≡ put_all compare_cells kept a.now b.now) }
-{
-    let mut values = Values::new(alloc);
-    let (mut left, mut right) = (a, b);
-    while let Some((first, more_left, more_right)) = first_of(left, right) {
-        values.push(alloc, first.lent())?;
-        left = more_left;
-        right = more_right;
+/// The order of cells, in which only equal ones tie: of two that tie one is kept.
+#[derive(Drop)]
+struct CellOrder;
+
+impl Ranking for CellOrder {
+    ghost use Rattle.hv_value.specs.Order.{compare_cells};
+    ghost use Rattle.hv_value.specs.CellOrder.{cells_total};
+    ghost use Rattle.hv_range.specs.Distinct.{kept};
+    ghost use Rattle.hv_range.specs.DistinctLaws.{kept_joins};
+
+    type Item = Cell;
+
+    ghost cmp = { λ _ x y. compare_cells x y };
+
+    ghost join = { λ _ x y. kept x y };
+
+    fn compare(&self, a: &Cell, b: &Cell) -> Ordering {
+        compare(a.lent(), b.lent())
     }
-    Ok(values)
+
+    fn join(&self, alloc: Global, _a: &Cell, b: &Cell) -> Mem<Cell> {
+        Cell::of(alloc, b.lent())
+    }
+
+    fn copy(&self, alloc: Global, a: &Cell) -> Mem<Cell> {
+        Cell::of(alloc, a.lent())
+    }
+
+    ghost order = { λ _. cells_total };
+
+    ghost ties = { λ _. kept_joins };
 }
 
-/// The least cell of two rising lists, and what is left of both without it. None where both are empty.
-fn first_of<'a>(a: &'a [Cell], b: &'a [Cell]) -> Option<(&'a Cell, &'a [Cell], &'a [Cell])>
+/// Two rising lists joined, each cell that is in both once: the least of them, at most so many.
+pub(crate) fn joined(alloc: Global, a: &[Cell], b: &[Cell], most: usize) -> Mem<Values>
     requires left { IsRising compare_cells a.now }
     requires right { IsRising compare_cells b.now }
-    ensures some { IfSome result (λ step. IsFirst a.now b.now step.0.now step.1.now step.2.now) }
-    ensures none { IsNone result → put_all compare_cells kept a.now b.now ≡ [] }
+    ensures { IfOk result (λ values. values ≡ take most (put_all compare_cells kept a.now b.now)) }
 {
-    let [x, after_x @ ..] = a else {
-        let [y, after_y @ ..] = b else {
-            return None;
-        };
-        return Some((y, a, after_y));
-    };
-    let [y, after_y @ ..] = b else {
-        return Some((x, after_x, b));
-    };
-    Some(match compare(x.lent(), y.lent()) {
-        Ordering::Less => (x, after_x, b),
-        Ordering::Equal => (y, after_x, after_y),
-        Ordering::Greater => (y, a, after_y),
-    })
+    let cells = hv_sketch::joined(alloc, &CellOrder, a, b, most)?;
+    Ok(Values { cells })
 }

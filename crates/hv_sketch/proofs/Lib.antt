@@ -1,6 +1,8 @@
 pub mod AnyOrder
 pub mod Apart
 pub mod GatherFacts
+pub mod GroupRows
+pub mod GroupSums
 pub mod JoinFacts
 pub mod Least
 pub mod PartsFacts

@@ -1,6 +1,8 @@
 pub mod ColumnCells
 pub mod Columns
 pub mod Gathering
+pub mod GroupLaws
+pub mod Groups
 pub mod Joining
 pub mod Merging
 pub mod Parts

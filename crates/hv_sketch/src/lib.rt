@@ -4,9 +4,14 @@
 mod columns;
 mod counts;
 mod gather;
+mod group_table;
+mod grouped;
+mod groups;
 mod laws;
+mod pair;
 mod parts;
 mod ranking;
+mod row_lists;
 mod sorter;
 #[cfg(test)]
 mod tests;
@@ -15,7 +20,10 @@ mod vizketch;
 pub use columns::is_column_of;
 pub use counts::Counts;
 pub use gather::{Gather, gather_rows};
+pub use grouped::{Grouped, GroupedSummary};
+pub use groups::Groups;
 pub use laws::{least_of_pieces, order_is_free};
+pub use pair::{Pair, PairSummary};
 pub use parts::add_part;
 pub use ranking::{Ranking, joined};
 pub use sorter::{Sorter, add_tally, empty_tally, tally};

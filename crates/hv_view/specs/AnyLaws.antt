@@ -13,6 +13,5 @@ use Rattle.hv_view.specs.Stands.{StandsForAny}
 pub StandsForAny-swap : (v : AnyView) (a b c : List Row) (s : AnySummary) → StandsForAny v (a ++ b ++ c) s → StandsForAny v (a ++ c ++ b) s
 unfolding StandsForAny
 StandsForAny-swap (view.Range range) a b c (summary.Range s) h = IsRange-swap range.kind range.col a b c s h
-StandsForAny-swap (view.Range range) a b c (summary.Distinct s) h = h
-StandsForAny-swap (view.Distinct distinct) a b c (summary.Range s) h = h
 StandsForAny-swap (view.Distinct distinct) a b c (summary.Distinct s) h = h ∙ distinct_of-swap distinct.col distinct.k a b c
+StandsForAny-swap _ a b c _ h = h

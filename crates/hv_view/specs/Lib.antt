@@ -1,3 +1,4 @@
 pub mod AnyLaws
+pub mod Plans
 pub mod Stands
 pub mod View

@@ -23,6 +23,5 @@ MergesAlways (view.Distinct distinct) = ⊥
 -- the summary is of the view's variant, and that of the rows
 unfoldable pub StandsForAny : AnyView → List Row → AnySummary → Type 0
 StandsForAny (view.Range range) rows (summary.Range s) = IsRange range.kind range.col rows s
-StandsForAny (view.Range range) rows (summary.Distinct s) = ⊥
-StandsForAny (view.Distinct distinct) rows (summary.Range s) = ⊥
 StandsForAny (view.Distinct distinct) rows (summary.Distinct s) = s ≡ distinct_of distinct.col distinct.k rows
+StandsForAny _ rows _ = ⊥

@@ -1,6 +1,6 @@
 //! Any view, itself a vizketch: a call is that of the variant.
 
-ghost use Rattle.std.specs.Prelude.{◌≡◌, IfOk};
+ghost use Rattle.std.specs.Prelude.{◌≡◌, ◌↔◌, IfOk, IsTrue};
 
 use crate::AnySummary;
 use hv_range::{Distinct, Range};
@@ -9,7 +9,7 @@ use hv_value::{Mem, Schema, Table};
 use std::alloc::Global;
 
 /// A view, one variant a vizketch.
-#[derive(Debug, PartialEq, Eq, Hash, Drop)]
+#[derive(PartialEq, Eq, Hash, Drop)]
 pub enum AnyView {
     Range(Range),
     Distinct(Distinct),
@@ -24,6 +24,13 @@ impl AnyView {
             AnyView::Range(view) => AnyView::Range(*view),
             AnyView::Distinct(view) => AnyView::Distinct(*view),
         })
+    }
+
+    /// Whether two views are the same.
+    pub fn same(&self, other: &AnyView) -> bool
+        ensures { IsTrue result ↔ (self.now ≡ other.now) }
+    {
+        self == other
     }
 }
 

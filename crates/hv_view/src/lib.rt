@@ -3,10 +3,12 @@
 
 mod any_summary;
 mod any_view;
+mod plan;
 mod shown;
 #[cfg(test)]
 mod tests;
 
 pub use any_summary::AnySummary;
 pub use any_view::AnyView;
+pub use plan::{Plan, Second, conclude, first_view, then};
 pub use shown::{Shown, finish};

@@ -29,6 +29,33 @@ pub enum Shown {
     },
 }
 
+impl Shown {
+    /// An equal value.
+    pub fn copied(&self, alloc: Global) -> Mem<Shown>
+        ensures { IfOk result (λ shown. shown ≡ self.now) }
+    {
+        Ok(match self {
+            Shown::Range {
+                count,
+                max,
+                min,
+                missing,
+                sum,
+            } => Shown::Range {
+                count: *count,
+                max: Cell::of(alloc, max.lent())?,
+                min: Cell::of(alloc, min.lent())?,
+                missing: *missing,
+                sum: *sum,
+            },
+            Shown::Distinct { more, values } => Shown::Distinct {
+                more: *more,
+                values: values.copy(alloc)?,
+            },
+        })
+    }
+}
+
 /// The value of a view over the rows for which a summary of it stands. A summary of another view stands for
 /// no rows, and is shown as it is, without a sum.
 #[tactic(auto, unfolding(crate::specs::Stands::StandsForAny))]
