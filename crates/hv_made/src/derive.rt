@@ -6,11 +6,12 @@ ghost use Rattle.hv_expr.specs.Ready.{IsReadyExpr, is_expr_within};
 ghost use Rattle.hv_expr.specs.Checks.{expr_fault, has_fit_factors, kind_of};
 ghost use Rattle.hv_lineage.specs.Lineages.{IsFitColumn};
 ghost use Rattle.hv_lineage.specs.Made.{with_column};
+ghost use Rattle.hv_lineage.specs.Refusals.{name_refusal};
 ghost use Rattle.hv_made.specs.Steps.{HasValues, IsDerived, value_in};
 
 use hv_column::Column;
 use hv_expr::{Expr, ReadyExpr};
-use hv_lineage::longer_schema;
+use hv_lineage::{LineageErr, longer_schema};
 use hv_part::PartTable;
 use hv_value::{Cell, Kind, Mem, Memory, Schema, Table, Text};
 use std::alloc::Global;
@@ -55,11 +56,13 @@ fn value_column(alloc: Global, table: &PartTable, expr: &Expr) -> Mem<Column>
 
 /// The schema with one more column, of a name that is allowed.
 fn schema_with(alloc: Global, schema: &Schema, name: &Text, kind: Kind) -> Mem<Schema>
+    requires { name_refusal schema.now name.now (Some kind) ≡ None }
     ensures { IfOk result (λ made. made ≡ with_column schema.now name.now (Some kind)) }
 {
     match longer_schema(alloc, schema, name, kind) {
         Ok(made) => Ok(made),
-        Err(_) => Err(Memory),
+        Err(LineageErr::Memory) => Err(Memory),
+        Err(_) => unreachable!(),
     }
 }
 

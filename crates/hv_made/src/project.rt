@@ -8,7 +8,7 @@ ghost use Rattle.hv_lineage.specs.Refusals.{choice_refusal, has_column};
 ghost use Rattle.hv_made.specs.Steps.{IsPicked, picked_cols};
 
 use hv_column::Column;
-use hv_lineage::picked_schema;
+use hv_lineage::{LineageErr, picked_schema};
 use hv_part::PartTable;
 use hv_value::{Mem, Memory, Schema, Table, Text};
 use std::alloc::Global;
@@ -35,11 +35,13 @@ fn named_columns(
 
 /// The schema of the named columns, which make one.
 fn schema_of(alloc: Global, schema: &Schema, names: &[Text]) -> Mem<Schema>
+    requires { choice_refusal schema.now names.now ≡ None }
     ensures { IfOk result (λ made. made ≡ picked schema.now names.now) }
 {
     match picked_schema(alloc, schema, names) {
         Ok(made) => Ok(made),
-        Err(_) => Err(Memory),
+        Err(LineageErr::Memory) => Err(Memory),
+        Err(_) => unreachable!(),
     }
 }
 

@@ -1,12 +1,11 @@
 -- The range that is kept by numbers: one cell more, and that its ends are of the column's kind.
 use Rattle.std.proofs.Common.{◌≡◌, ◌+◌, ℕ, zero, suc, Bool, true, false, List, refl, sym, ap, add-one, arith}
 use Rattle.std.proofs.Math.Dec.{eqb-suc-zero}
-use Rattle.std.specs.Prelude.{ℤ, pos, ◌+ℤ◌, if◌then◌else◌}
+use Rattle.std.specs.Prelude.{ℤ, pos, if◌then◌else◌}
 use Rattle.std.proofs.lemmas.Bool.{false≢true}
 use Rattle.std.specs.Ordering.{flip_args, int_cmp, is_lt}
 use Rattle.std.proofs.lemmas.Int.{ints}
 use Rattle.hv_value.specs.Order.{compare_cells}
-use Rattle.hv_value.specs.declared.cell.Cell.{Cell}
 use Rattle.hv_value.specs.declared.cell.Cell.TheVariants as cell
 use Rattle.hv_value.specs.declared.cell.Kind.{Kind}
 use Rattle.hv_value.specs.declared.cell.Kind.TheVariants as kind

@@ -1,5 +1,5 @@
-//! The range and the distinct values of small tables of whole numbers; those of every kind are tested in hv_view,
-//! the crate above. Expected values are worked by hand.
+//! The range and the distinct values of whole numbers in two partitions. Values of every kind, and at both ends of 64
+//! bits, are told by the scripts of the folder tests/. Expected values are worked by hand.
 
 ghost use Rattle.std.specs.Prelude.{◌≡◌, [], ◌∷◌, codes, IfOk};
 ghost use Rattle.hv_value.specs.Cells.{cell_lent};
@@ -88,8 +88,6 @@ fn two_rows(
     })
 }
 
-const LEAST: Option<i64> = Some(i64::MIN);
-
 /// The cell of a whole number, or a missing one.
 fn cell_of(n: Option<i64>) -> Cell {
     match n {
@@ -156,35 +154,6 @@ fn each_partition_adds_its_rows(rt: HostRuntime) -> Result<(), Fail> {
     assert!(rt; are_equal(&found, &range(3, 1, [Some(-2), Some(9)], 12)));
     let found = of_both(rt.alloc(), &Distinct::new(0, 2), &low, &high)?;
     assert!(rt; are(&found, &[-2, 5], true));
-    Ok(())
-}
-
-#[test]
-fn a_table_is_summarised(rt: HostRuntime) -> Result<(), Fail> {
-    let view = Range::new(0, Kind::Int);
-    let distinct = Distinct::new(0, 1);
-    for (first, second, bounds, sum, values, more) in [
-        (None, None, [None, None], 0, &[0i64][..0], false),
-        (Some(4), None, [Some(4), Some(4)], 4, &[4][..], false),
-        (None, Some(4), [Some(4), Some(4)], 4, &[4][..], false),
-        (Some(4), Some(3), [Some(3), Some(4)], 7, &[3][..], true),
-        (
-            LEAST,
-            LEAST,
-            [LEAST, LEAST],
-            -(1 << 64),
-            &[i64::MIN][..],
-            false,
-        ),
-    ] {
-        let table = two_rows(rt.alloc(), 0, first, second)?;
-        let missing = u64::from(first.is_none()) + u64::from(second.is_none());
-        let want = range(2 - missing, missing, bounds, sum);
-        let found = view.summarize(rt.alloc(), &table)?;
-        assert!(rt; are_equal(&found, &want), "at {first:?} and {second:?}");
-        let found = distinct.summarize(rt.alloc(), &table)?;
-        assert!(rt; are(&found, values, more), "at {first:?} and {second:?}");
-    }
     Ok(())
 }
 

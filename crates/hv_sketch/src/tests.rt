@@ -1,8 +1,9 @@
-//! A second view beside the range, the count of rows, and columns as views ask for them.
+//! Views of rows alone: their count, which of them have a cell, two counts as a pair in one group, and columns as views
+//! ask for them.
 
 use crate::{
-    Counts, Gather, Sorter, Vizketch, add_tally, empty_tally, gather_rows, is_column_of,
-    order_is_free, tally,
+    Counts, Gather, Grouped, Groups, Pair, Sorter, Vizketch, add_tally, empty_tally, gather_rows,
+    is_column_of, order_is_free, tally,
 };
 use hv_value::{CellRef, Kind, Mem, Schema, Table, Text};
 use std::alloc::Global;
@@ -168,5 +169,47 @@ fn counts_add_up(rt: HostRuntime) -> Result<(), Fail> {
     let other = view.zero(rt.alloc())?;
     view.merge_into(rt.alloc(), &mut acc, &other)?;
     assert_eq!(rt; acc.as_slice(), [0, 0].as_slice());
+    Ok(())
+}
+
+/// One group, of all rows.
+#[derive(Drop)]
+struct OneGroup;
+
+impl Groups for OneGroup {
+    ghost use Rattle.std.specs.Prelude.{⊤, Some};
+
+    ghost group_of = { λ groups row. Some 0 };
+
+    ghost count = { λ groups. 1 };
+
+    ghost fits_columns = { λ groups columns. ⊤ };
+
+    fn fits(&self, _schema: &Schema) -> bool {
+        true
+    }
+
+    fn groups(&self) -> u32 {
+        1
+    }
+
+    fn group<T: Table>(&self, _table: &T, _row: u32) -> Option<u32> {
+        Some(0)
+    }
+}
+
+#[test]
+fn each_half_of_a_pair_and_each_group_starts_empty(rt: HostRuntime) -> Result<(), Fail> {
+    let view = Grouped::new(OneGroup, Pair::new(RowCount, RowCount));
+    let mut acc = view.zero(rt.alloc())?;
+    let other = view.zero(rt.alloc())?;
+    view.merge_into(rt.alloc(), &mut acc, &other)?;
+    let copy = view.copy(rt.alloc(), &acc)?;
+    assert_eq!(rt; copy.rest(), 0);
+    assert_eq!(rt; copy.groups().len(), 1);
+    for both in copy.groups() {
+        assert_eq!(rt; both.first, 0);
+        assert_eq!(rt; both.second, 0);
+    }
     Ok(())
 }

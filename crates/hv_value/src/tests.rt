@@ -238,3 +238,40 @@ fn a_catalog_knows_its_tables_by_name(rt: HostRuntime) -> Result<(), Memory> {
     }
     Ok(())
 }
+
+// By the first key that tells two apart, the other way round where it goes down.
+#[test]
+fn orders_compare_key_by_key(rt: HostRuntime) -> Result<(), Memory> {
+    let alloc = rt.alloc();
+    let up = OrderKey {
+        col: 0,
+        down: false,
+    };
+    let down = OrderKey { col: 1, down: true };
+    let order = Order::new(vec![in alloc; up, down]?);
+    let a = vec![in alloc; Cell::Int(1), Cell::Int(5)]?;
+    let b = vec![in alloc; Cell::Int(1), Cell::Int(7)]?;
+    let c = vec![in alloc; Cell::Int(2), Cell::Missing]?;
+    assert_eq!(rt;
+        order.compare(a.as_slice(), b.as_slice()),
+        Ordering::Greater
+    );
+    assert_eq!(rt; order.compare(a.as_slice(), c.as_slice()), Ordering::Less);
+    assert_eq!(rt; order.compare(c.as_slice(), c.as_slice()), Ordering::Equal);
+    assert!(rt; order.copied(alloc)? == order);
+    Ok(())
+}
+
+#[test]
+fn lists_are_those_of_their_values(rt: HostRuntime) -> Result<(), Memory> {
+    let alloc = rt.alloc();
+    let mut list = Listed::new(alloc);
+    list.push(Cell::Int(2))?;
+    list.insert(0, Cell::Int(1))?;
+    list.push(Cell::Int(3))?;
+    list.truncate(2);
+    let other = Listed::from_vec(vec![in alloc; Cell::Int(1), Cell::Int(2)]?);
+    assert!(rt; list == other);
+    assert_eq!(rt; list.into_vec().len(), other.as_slice().len());
+    Ok(())
+}

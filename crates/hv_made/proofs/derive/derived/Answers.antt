@@ -4,6 +4,10 @@ use Rattle.std.proofs.lemmas.List.{map-append}
 use Rattle.hv_made.proofs.ColumnSteps.{agree-longer}
 use Rattle.hv_made.proofs.derive.derived.Goals as goal
 
+-- the name is one that isn't refused
+pub schema_with-requires : goal.schema_with-requires
+schema_with-requires c = rw (c.into_parts-schema.ensures.schema, c.kind.ensures.value, ← c.in_ok-column.ensures.kind) c.requires.named
+
 -- the columns and one more agree with the longer schema
 pub new-requires-2 : goal.new-requires-2
 new-requires-2 c =

@@ -23,6 +23,10 @@ named_columns-requires-clause-wide c =
 pub named_columns-requires-clause-named : goal.named_columns-requires-clause-named
 named_columns-requires-clause-named c = rw c.into_parts-schema.ensures.schema (chosen c.args.table.columns c.args.names.now c.requires).0
 
+-- the choice is one that isn't refused
+pub schema_of-requires : goal.schema_of-requires
+schema_of-requires c = rw c.into_parts-schema.ensures.schema c.requires
+
 -- the chosen columns agree with the chosen schema
 pub new-requires : goal.new-requires
 new-requires c =
