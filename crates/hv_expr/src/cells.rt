@@ -219,8 +219,7 @@ fn join_text(alloc: Global, left: &str, between: &str, right: CellRef<'_>) -> Me
 fn joined(alloc: Global, left: &str, between: &str, right: &str) -> Mem<Text>
     ensures { IfOk result (λ text. text ≡ left.now ++ (between.now ++ right.now)) }
 {
-    let joined = format!(in alloc; "{left}{between}{right}")?;
-    Text::of(alloc, joined.as_str())
+    Ok(Text::from_string(format!(in alloc; "{left}{between}{right}")?))
 }
 
 /// The cell at a place in a row that is there, missing where there is no place.

@@ -87,7 +87,7 @@ fn ready_text(alloc: Global, test: &TextTest) -> Mem<Text>
 {
     if test.fold {
         let folded = folded(alloc, test.text.as_str())?;
-        Text::of(alloc, folded.as_str())
+        Ok(Text::from_string(folded))
     } else {
         test.text.copy(alloc)
     }

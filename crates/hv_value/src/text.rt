@@ -1,6 +1,6 @@
 //! Texts. Contracts see one as its list of bytes, which is UTF-8.
 
-ghost use Rattle.std.specs.Prelude.{◌≡◌, IfOk, bytes_eq};
+ghost use Rattle.std.specs.Prelude.{◌≡◌, IfOk, bytes_eq, string_bytes};
 ghost use Rattle.std.specs.Cmp.{partial_equiv_from_equiv};
 ghost use Rattle.std.specs.Hash as fed;
 ghost use Rattle.std.proofs.Common.{ap};
@@ -34,6 +34,13 @@ impl Text {
         Ok(Text {
             inner: String::from_str(alloc, s)?,
         })
+    }
+
+    /// The text of a string. It takes no memory.
+    pub fn from_string(s: String) -> Text
+        ensures { result ≡ string_bytes s }
+    {
+        Text { inner: s }
     }
 
     pub fn as_str(&self) -> &str
