@@ -5,6 +5,7 @@ use Rattle.std.specs.Prelude.{ℤ, pos, if◌then◌else◌}
 use Rattle.std.proofs.lemmas.Bool.{false≢true}
 use Rattle.std.specs.Ordering.{flip_args, int_cmp, is_lt}
 use Rattle.std.proofs.lemmas.Int.{ints}
+use Rattle.hv_value.specs.CellOrder.{compare-days, compare-ints}
 use Rattle.hv_value.specs.Order.{compare_cells}
 use Rattle.hv_value.specs.declared.cell.Cell.TheVariants as cell
 use Rattle.hv_value.specs.declared.cell.Kind.{Kind}
@@ -19,7 +20,6 @@ use Rattle.hv_range.specs.NumberRange.{end_cell, end_with, range_kept, with_numb
 use Rattle.hv_range.specs.RangeLaws.{range-same}
 use Rattle.hv_range.specs.RangeSums.{cell_range, range_sum}
 use Rattle.hv_range.specs.declared.numbers.NumberRange.{NumberRange}
-use Rattle.hv_range.proofs.CellFacts.{compare-days, compare-ints}
 use Rattle.hv_range.proofs.RangeFacts.{fold-kind}
 
 -- the ends with one whole number more
