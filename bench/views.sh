@@ -85,7 +85,8 @@ fn numbers(alloc: Global, rows: u32) -> Mem<Arc<Column>>
 {
     let mut column = Column::new(alloc, Kind::Int)?;
     let mut state = 1;
-    for _row in 0..rows {
+    for row in 0..rows {
+        let _ = row;
         state = next(state);
         column.push(cell_of(state))?;
     }
@@ -205,15 +206,15 @@ use Rattle.std.proofs.Common.{◌≡◌, length}
 use Rattle.hv_value.specs.declared.cell.Kind.TheVariants as kind
 use Rattle.views.proofs.numbers.Given as goal
 
-abbrev pub invariant-loop-_row : goal.invariant-loop-_row
-invariant-loop-_row l = (l.column.kind ≡ kind.Int) × (length l.column.cells ≡ l.row-counter)
+abbrev pub invariant-loop-row : goal.invariant-loop-row
+invariant-loop-row l = (l.column.kind ≡ kind.Int) × (length l.column.cells ≡ l.row)
 ANTT
     cat > crates/views/proofs/half/Invariants.antt <<'ANTT'
 use Rattle.hv_member.specs.Sets.{IsSetBelow}
 use Rattle.views.proofs.half.Given as goal
 
 abbrev pub invariant-loop-row : goal.invariant-loop-row
-invariant-loop-row l = IsSetBelow l.row-counter l.found.items
+invariant-loop-row l = IsSetBelow l.row l.found.items
 ANTT
     cat > crates/views/proofs/half/Answers.antt <<'ANTT'
 use Rattle.std.proofs.Common.{arith}

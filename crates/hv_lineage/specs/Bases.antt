@@ -4,7 +4,7 @@ use Rattle.std.specs.List.{AllByRecursion}
 use Rattle.hv_value.specs.Schema.{Columns}
 use Rattle.hv_lineage.specs.declared.base.Base.{Base}
 use Rattle.hv_lineage.specs.declared.base.Base.TheVariants as base
-use Rattle.hv_lineage.specs.declared.base.TheConstants.{MAX_PARTS}
+use Rattle.hv_value.specs.declared.catalog.TheConstants.{MAX_PARTITIONS}
 
 -- the columns of a base
 abbrev pub base_columns : Base → Columns
@@ -33,5 +33,5 @@ HasShortTexts (base.Named schema table parts) = Unit {0}
 
 -- what is asked of each base: not too many partitions, nor too long texts
 pub record IsFitBase (b : Base) : Type 0 where
-  pub few : base_parts b ≤ MAX_PARTS
+  pub few : base_parts b ≤ MAX_PARTITIONS
   pub short : HasShortTexts b

@@ -13,9 +13,6 @@ use hv_value::{Schema, Text};
 use sqlite_items::Items;
 use std::hash::{Hash, Hasher};
 
-/// The most partitions of a table.
-pub const MAX_PARTS: u32 = 1 << 16;
-
 /// A table that no term made.
 #[derive(Drop)]
 pub enum Base {

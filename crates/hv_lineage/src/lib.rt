@@ -11,7 +11,7 @@ mod same;
 mod shared;
 mod term;
 
-pub use base::{Base, MAX_PARTS};
+pub use base::Base;
 pub use columns::{copy_schema, longer_schema, picked_schema};
 pub use error::LineageErr;
 pub use lineage::Lineage;

@@ -17,7 +17,8 @@ fn passing_rows(alloc: Global, table: &PartTable, pred: &Pred) -> Mem<Vec<u32>>
     let ready = ReadyPred::of(alloc, pred, table.schema())?;
     let mut kept = KeptRows::new(alloc);
     let mut from = 0;
-    while let Some(row) = table.member().next(from) {
+    let mut hint = 0;
+    while let Some(row) = table.member().next_near(from, &mut hint) {
         let passes = ready.eval(alloc, table, row)?;
         kept.offer(row, passes)?;
         from = row + 1;

@@ -54,6 +54,7 @@ fn is_place_from(numbers: &[u32], from: u32, place: usize) -> bool
 }
 
 /// The place of the first number that is not below `from`, which may be the one after the last, by halves.
+#[cold]
 #[inline(never)]
 fn place_from(numbers: &[u32], from: u32) -> usize
     requires { IsRising numbers.now }

@@ -13,8 +13,9 @@ use std::marker::Model;
 /// A view that is taken of the rows of each group.
 #[derive(Drop, PartialEq, Eq, Hash)]
 pub struct Grouped<G, V> {
-    groups: G,
-    inner: V,
+    pub groups: G,
+    /// The view of each group's rows.
+    pub inner: V,
 }
 
 /// What a grouped view keeps of some rows: the inner view's summary of each group's, and how many are in no

@@ -9,8 +9,8 @@ use std::alloc::Global;
 /// Two views that are taken together, of the same rows.
 #[derive(Drop, PartialEq, Eq, Hash)]
 pub struct Pair<A, B> {
-    first: A,
-    second: B,
+    pub first: A,
+    pub second: B,
 }
 
 /// What a pair of views keeps of some rows: what each of them keeps.

@@ -1,9 +1,14 @@
-//! Views of rows alone: their count, which of them have a cell, two counts as a pair in one group, and columns as views
-//! ask for them.
+//! Views of rows alone: their count, which of them have a cell, two counts as a pair in one group over two partitions,
+//! and columns as views ask for them.
+
+ghost use Rattle.std.specs.Prelude.{◌≡◌, [], ◌∷◌, codes, IfOk};
+ghost use Rattle.hv_value.specs.Cells.{cell_lent};
+ghost use Rattle.hv_value.specs.Rows.{int_cell};
+ghost use Rattle.hv_value.specs.declared.cell.Kind.TheVariants as kind;
 
 use crate::{
-    Counts, Gather, Grouped, Groups, Pair, Sorter, Vizketch, add_tally, empty_tally, gather_rows,
-    is_column_of, order_is_free, tally,
+    Counts, Gather, Grouped, Groups, Pair, Sorter, Vizketch, add_part, add_tally, empty_tally,
+    gather_rows, is_column_of, order_is_free, tally,
 };
 use hv_value::{CellRef, Kind, Mem, Schema, Table, Text};
 use std::alloc::Global;
@@ -169,47 +174,153 @@ fn counts_add_up(rt: HostRuntime) -> Result<(), Fail> {
     let other = view.zero(rt.alloc())?;
     view.merge_into(rt.alloc(), &mut acc, &other)?;
     assert_eq!(rt; acc.as_slice(), [0, 0].as_slice());
+    let table = two_rows(rt.alloc(), 0, None, Some(5))?;
+    if !view.fits(&table.schema) {
+        return Err(Fail::from("the view fits"));
+    }
+    let counts = view.summarize(rt.alloc(), &table)?;
+    assert_eq!(rt; counts.as_slice(), [1, 1].as_slice());
     Ok(())
 }
 
-/// One group, of all rows.
+/// A table of one column of whole numbers, with the rows 3 and 7.
 #[derive(Drop)]
-struct OneGroup;
+struct TwoRows {
+    schema: Schema,
+    part: u32,
+    first: Option<i64>,
+    second: Option<i64>,
+    ghost column: { schema ≡ (codes "x", kind.Int) ∷ [] },
+}
 
-impl Groups for OneGroup {
-    ghost use Rattle.std.specs.Prelude.{⊤, Some};
+impl Table for TwoRows {
+    ghost use Rattle.std.specs.Prelude.{◌≡◌, [], ◌∷◌, codes};
+    ghost use Rattle.hv_value.specs.Rows.{int_cell};
+    ghost use Rattle.hv_value.specs.declared.cell.Kind.TheVariants as kind;
 
-    ghost group_of = { λ groups row. Some 0 };
+    ghost columns = { λ table. (codes "x", kind.Int) ∷ [] };
+
+    ghost part_number = { λ table. table.part };
+
+    ghost rows = { λ table. record { part = table.part; number = 3; cells = int_cell table.first ∷ [] }
+        ∷ record { part = table.part; number = 7; cells = int_cell table.second ∷ [] } ∷ [] };
+
+    fn schema(&self) -> &Schema {
+        &self.schema
+    }
+
+    fn part(&self) -> u32 {
+        self.part
+    }
+
+    fn next_row(&self, from: u32) -> Option<u32> {
+        match from {
+            0..=3 => Some(3),
+            4..=7 => Some(7),
+            _ => None,
+        }
+    }
+
+    fn cell(&self, row: u32, _col: u32) -> CellRef<'_> {
+        lent(if row == 3 { self.first } else { self.second })
+    }
+}
+
+/// A cell of a whole number, or a missing one.
+fn lent(n: Option<i64>) -> CellRef<'static>
+    ensures { cell_lent result ≡ int_cell n }
+{
+    match n {
+        Some(n) => CellRef::Int(n),
+        None => CellRef::Missing,
+    }
+}
+
+/// The rows of two numbers in a partition.
+fn two_rows(
+    alloc: Global,
+    part: u32,
+    first: Option<i64>,
+    second: Option<i64>,
+) -> Result<TwoRows, Fail>
+    ensures { IfOk result (λ table. table.part ≡ part) }
+{
+    let columns = vec![in alloc; (Text::of(alloc, "x")?, Kind::Int)]?;
+    Ok(TwoRows {
+        schema: Schema::new(columns)?,
+        part,
+        first,
+        second,
+    })
+}
+
+/// One group, of the rows whose cell isn't missing.
+#[derive(Drop)]
+struct Present;
+
+impl Groups for Present {
+    ghost use Rattle.std.specs.Prelude.{cond, Some, None};
+    ghost use Rattle.hv_value.specs.declared.cell.Kind.TheVariants as kind;
+    ghost use Rattle.hv_value.specs.Cells.{cell_at};
+    ghost use Rattle.hv_sketch.specs.ColumnCells.{is_missing};
+    ghost use Rattle.hv_sketch.specs.Columns.{IsColumnOf};
+
+    ghost group_of = { λ groups row. cond (is_missing (cell_at row.cells 0)) None (Some 0) };
 
     ghost count = { λ groups. 1 };
 
-    ghost fits_columns = { λ groups columns. ⊤ };
+    ghost fits_columns = { λ groups columns. IsColumnOf columns 0 kind.Int };
 
-    fn fits(&self, _schema: &Schema) -> bool {
-        true
+    fn fits(&self, schema: &Schema) -> bool {
+        is_column_of(schema, 0, Kind::Int)
     }
 
     fn groups(&self) -> u32 {
         1
     }
 
-    fn group<T: Table>(&self, _table: &T, _row: u32) -> Option<u32> {
-        Some(0)
+    fn group<T: Table>(&self, table: &T, row: u32) -> Option<u32> {
+        match table.cell(row, 0) {
+            CellRef::Missing => None,
+            _ => Some(0),
+        }
     }
 }
 
-#[test]
-fn each_half_of_a_pair_and_each_group_starts_empty(rt: HostRuntime) -> Result<(), Fail> {
-    let view = Grouped::new(OneGroup, Pair::new(RowCount, RowCount));
-    let mut acc = view.zero(rt.alloc())?;
-    let other = view.zero(rt.alloc())?;
-    view.merge_into(rt.alloc(), &mut acc, &other)?;
-    let copy = view.copy(rt.alloc(), &acc)?;
-    assert_eq!(rt; copy.rest(), 0);
-    assert_eq!(rt; copy.groups().len(), 1);
+/// How many rows are in no group, and in each group by both halves of a pair, of two partitions.
+fn counted(alloc: Global, low: &TwoRows, high: &TwoRows) -> Result<(u64, Vec<(u64, u64)>), Fail>
+    requires low { low.now.part ≡ 0 }
+    requires high { high.now.part ≡ 1 }
+{
+    let view = Grouped::new(Present, Pair::new(RowCount, RowCount));
+    if !view.fits(&low.schema) || !view.fits(&high.schema) {
+        return Err(Fail::from("the view fits"));
+    }
+    let mut acc = view.zero(alloc)?;
+    add_part(alloc, &view, &mut acc, low)?;
+    add_part(alloc, &view, &mut acc, high)?;
+    let copy = view.copy(alloc, &acc)?;
+    let mut counts = Vec::new(alloc);
     for both in copy.groups() {
-        assert_eq!(rt; both.first, 0);
-        assert_eq!(rt; both.second, 0);
+        counts.push((both.first, both.second))?;
+    }
+    Ok((copy.rest(), counts))
+}
+
+#[test]
+fn each_group_counts_its_own_rows(rt: HostRuntime) -> Result<(), Fail> {
+    let alloc = rt.alloc();
+    for (cells, rest, count) in [
+        ([None, None, None, None], 4, 0),
+        ([Some(1), None, None, None], 3, 1),
+        ([None, Some(1), Some(2), None], 2, 2),
+        ([Some(1), Some(2), Some(3), Some(4)], 0, 4),
+    ] {
+        let low = two_rows(alloc, 0, cells[0], cells[1])?;
+        let high = two_rows(alloc, 1, cells[2], cells[3])?;
+        let (found, counts) = counted(alloc, &low, &high)?;
+        assert_eq!(rt; found, rest);
+        assert_eq!(rt; counts.as_slice(), [(count, count)].as_slice());
     }
     Ok(())
 }

@@ -34,7 +34,7 @@ pub trait Vizketch {
     fn zero(&self, alloc: Global) -> Mem<Self::Summary>
         ensures { IfOk result (λ s. stands self.now [] s) };
 
-    /// The summary of a table's rows, in one pass over them.
+    /// The summary of a table's rows, in a fixed number of passes over them.
     fn summarize<T: Table>(&self, alloc: Global, table: &T) -> Mem<Self::Summary>
         requires { fits_columns self.now (T.columns table.now) }
         ensures { IfOk result (λ s. stands self.now (T.rows table.now) s) };
