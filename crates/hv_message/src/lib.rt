@@ -5,6 +5,7 @@ mod constants;
 mod exprs;
 mod fields;
 mod flaw;
+mod laws;
 mod limits;
 mod lineages;
 mod made;
@@ -19,6 +20,7 @@ mod views;
 mod why;
 
 pub use flaw::Flaw;
+pub use laws::levels_are_enough;
 pub(crate) use limits::LEVELS;
 pub use limits::{
     MAX_CONSTANT_BYTES, MAX_DISTINCT, MAX_ID, MAX_MESSAGE_BYTES, MAX_NODES, MAX_OBJECTS, MAX_OPEN,

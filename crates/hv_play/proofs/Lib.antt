@@ -1,11 +1,15 @@
 pub mod CutLemmas
+pub mod EndLemmas
 pub mod LineLemmas
 pub mod OutputLemmas
+pub mod ReadingLemmas
 pub mod RowSteps
 pub mod RunLemmas
+pub mod SeenLemmas
 pub mod SpokenLemmas
 pub mod StepLemmas
 pub mod TalkLemmas
 pub mod TextLemmas
 pub mod ValueLemmas
+pub mod WordLemmas
 pub mod WorkedRows

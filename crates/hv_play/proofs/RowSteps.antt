@@ -7,7 +7,6 @@ use Rattle.hv_reply.specs.declared.reply.Reply.{Reply}
 use Rattle.hv_session.specs.declared.request.OpenRequest.{OpenRequest}
 use Rattle.hv_session.specs.Talk.{Talk, Due, new_talk, known, served, after_reading, due_reply, after_due, request_with, IsFinal, closed}
 use Rattle.hv_play.specs.declared.entry.BadLine.{BadLine}
-use Rattle.hv_play.specs.declared.lines.TheConstants.{SESSIONS}
 use Rattle.hv_play.specs.Run.{Duty, script, drain, refusing, hearing, saying, ticking, treating, Event, comes, written, Runs, stays, does, Treats, out, SaysOwed, bad_entry, entries_of, duties_of, treatings, round, is_anything_open, no_tables, sixteen_sessions, whole, early, IsTrace}
 use Rattle.hv_play.specs.Script.{Line, line_of, script_lines}
 use Rattle.hv_play.specs.Steps.{at}
@@ -27,7 +26,7 @@ of talks s = get_or talks s new_talk
 
 -- the sessions at the start
 abbrev pub new_talks : List Talk
-new_talks = replicate SESSIONS new_talk
+new_talks = replicate 16 new_talk
 
 -- a line comes to the duties of what it asks for
 pub a_line : {talks last : List Talk} {events : List Event} (k : ℕ) (line : List ℕ) (lines : List (List ℕ)) (asks : Line) → line_of line ≡ asks
@@ -70,14 +69,19 @@ what_is_owed {talks} {last} {events} {todo} k s due later owes run =
     let mid = at (slice_set talks s (after_due (of talks s) due)) in
     let event = Some (written (out k s (due_reply (of talks s) due))) in
     does (at talks) mid (at last) (saying k s) (saying k s ∷ []) todo [] event events
-    (subst (λ dues. SaysOwed (at talks) k s dues event mid (saying k s ∷ [])) (sym owes) (record { shows = refl; leaves = refl; brings = refl })) run
+    (subst (λ dues. SaysOwed no_tables (at talks) k s dues event mid (saying k s ∷ [])) (sym owes) (
+      due_reply (of talks s) due,
+      after_due (of talks s) due,
+      (refl, refl),
+      record { shows = refl; leaves = refl; brings = refl },
+    )) run
 
 -- where nothing is owed there is nothing to say
 pub nothing_owed : {talks last : List Talk} {events : List Event} {todo : List Duty} (k s : ℕ) → (of talks s).due ≡ []
     → Goes talks todo events last → Goes talks (saying k s ∷ todo) events last
 nothing_owed {talks} {last} {events} {todo} k s owes run =
     does (at talks) (at talks) (at last) (saying k s) [] todo [] None events
-    (subst (λ dues. SaysOwed (at talks) k s dues None (at talks) []) (sym owes) (record { shows = refl; leaves = refl; brings = refl })) run
+    (subst (λ dues. SaysOwed no_tables (at talks) k s dues None (at talks) []) (sym owes) (record { shows = refl; leaves = refl; brings = refl })) run
 
 -- while a request is open, each session ticks, and the drain is due again
 pub a_round : {talks last : List Talk} {events : List Event} (k : ℕ) → is_anything_open (at talks) ≡ true

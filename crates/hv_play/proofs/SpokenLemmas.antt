@@ -61,14 +61,12 @@ quiet : (m : Manner) (s : ℕ) (state next : State) (more more' : List Duty) (ev
 quiet m s state next more more' event did = led_nowhere m s state next event (ap (λ o. spoken s (option_to_list o)) did.shows) did.leaves
 
 owed_led : (m : Manner) (state next : State) (k s session : ℕ) (dues : List Due) (event : Option Event) (more : List Duty) → s < length state.talks → (talk_of state session).due ≡ dues
-    → SaysOwed state k session dues event next more → Led m s state event next
+    → SaysOwed m state k session dues event next more → Led m s state event next
 owed_led m state next k s session [] event more within e did = quiet m s state next [] more event did
-owed_led m state next k s session (due ∷ later) event more within e did =
-    let talk = talk_of state session in
-    let word = outgoing (due_reply talk due) in
-    led_by m s session state next event word (after_due talk due) within
-    (ap (λ o. spoken s (option_to_list o)) did.shows ∙ append-nil (seen_from s session word)) did.leaves
-    (subst (λ ds. Says m ds talk (due_reply talk due) (after_due talk due)) (sym e) (refl, refl))
+owed_led m state next k s session (due ∷ later) event more within e (reply, talk, says, did) =
+    led_by m s session state next event (outgoing reply) talk within
+    (ap (λ o. spoken s (option_to_list o)) did.shows ∙ append-nil (seen_from s session (outgoing reply))) did.leaves
+    (subst (λ ds. Says m ds (talk_of state session) reply talk) (sym e) says)
 
 treated_led : (m : Manner) (state next : State) (k s session id : ℕ) (found : Option OpenRequest) (event : Option Event) (more : List Duty) → s < length state.talks
     → request_with id (talk_of state session) ≡ found → Treats m.told state k session found event next more → Led m s state event next

@@ -47,7 +47,6 @@ use Rattle.hv_session.specs.declared.request.OpenRequest.{OpenRequest}
 use Rattle.hv_session.specs.Talk.{Talk, IsFinal, answers, ending, known, making, new_talk}
 use Rattle.hv_play.specs.declared.entry.BadLine.TheVariants as bad_line
 use Rattle.hv_play.specs.declared.entry.Entry.{Entry}
-use Rattle.hv_play.specs.declared.lines.TheConstants.{SESSIONS}
 use Rattle.hv_play.specs.Run.{script, drain, Event, comes, written, out, bad_entry, no_tables, sixteen_sessions, whole, early, IsTrace}
 use Rattle.hv_play.specs.Script.{line_of, empty, hears, bad, script_lines}
 use Rattle.hv_play.specs.Steps.{at}
@@ -223,7 +222,7 @@ loads_and_views lines run =
     nothing_owed 2 0 refl run))))))
 
 abbrev other_sessions : List ℕ
-other_sessions = drop 1 (numbers SESSIONS)
+other_sessions = drop 1 (numbers 16)
 
 -- the drain answers the request
 drains : (k : ℕ) → Goes (only (session (table ∷ []) (request ∷ []) [])) (script k [] ∷ []) (written (out k 0 (last_reply 2 range)) ∷ []) (only (session (table ∷ []) [] []))

@@ -4,7 +4,6 @@ use Rattle.std.specs.declared.alloc.Global.{Global}
 use Rattle.std.specs.Io.KnownBytes.{Appends, Consumes, IsAtEnd}
 use Rattle.hv_outer.specs.declared.io_err.IoErr.{IoErr}
 use Rattle.hv_outer.specs.declared.io_err.IoErr.TheVariants.{Failed, Memory}
-use Rattle.hv_play.specs.declared.top.TheConstants.{DONE, WRITE_FAULT, NO_MEMORY, MAX_SCRIPT_BYTES}
 use Rattle.hv_play.specs.Run.{Ending, IsTrace, sixteen_sessions}
 
 -- whether the words are just `play`
@@ -15,9 +14,9 @@ is_play (word ∷ more ∷ words) = false
 
 -- the status after the lines and the drain
 abbrev pub status_after : Result (Unit {0}) IoErr → ℕ
-status_after (Ok _) = DONE
-status_after (Err Failed) = WRITE_FAULT
-status_after (Err Memory) = NO_MEMORY
+status_after (Ok _) = 0
+status_after (Err Failed) = 4
+status_after (Err Memory) = 5
 
 -- a script of at most 64 MiB was read to its end, and an output was written that is right for it
 pub record Traced (ending : Ending) (left left' taken taken' : Option (List ℕ)) : Type 0 where
@@ -25,6 +24,6 @@ pub record Traced (ending : Ending) (left left' taken taken' : Option (List ℕ)
   pub output : List ℕ
   pub read : Consumes left left' script
   pub ended : IsAtEnd left'
-  pub short : length script ≤ MAX_SCRIPT_BYTES
+  pub short : length script ≤ 67108864
   pub written : Appends taken taken' output
   pub right : IsTrace sixteen_sessions ending script output

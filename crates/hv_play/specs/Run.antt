@@ -6,11 +6,10 @@ use Rattle.hv_lineage.specs.Flat.{Told}
 use Rattle.hv_member.specs.Sets.{numbers}
 use Rattle.hv_reply.specs.declared.reply.Reply.{Reply}
 use Rattle.hv_session.specs.declared.request.OpenRequest.{OpenRequest}
-use Rattle.hv_session.specs.Talk.{Talk, Due, Manner, new_talk, Hears, due_reply, after_due, request_with, Closes}
+use Rattle.hv_session.specs.Talk.{Talk, Due, Manner, new_talk, Hears, Says, request_with, Closes}
 use Rattle.hv_play.specs.declared.entry.BadLine.{BadLine}
 use Rattle.hv_play.specs.declared.entry.Entry.{Entry}
 use Rattle.hv_play.specs.declared.entry.What.TheVariants as what
-use Rattle.hv_play.specs.declared.lines.TheConstants.{SESSIONS}
 use Rattle.hv_play.specs.Script.{Line, empty, bad, hears, line_of, script_lines}
 use Rattle.hv_play.specs.Texts.{entries_text}
 
@@ -98,12 +97,12 @@ pub record Did (event : Option Event) (next : State) (more : List Duty) (event' 
   pub leaves : next' ≡ next
   pub brings : more' ≡ more
 
--- a session says the first answer that it owes, and goes on while it owes one
-abbrev pub SaysOwed : State → ℕ → ℕ → List Due → Option Event → State → List Duty → Type 0
-SaysOwed state k s [] event next more = Did None state [] event next more
-SaysOwed state k s (due ∷ later) event next more =
-    let talk = talk_of state s in
-    Did (Some (written (out k s (due_reply talk due)))) (with_talk state s (after_due talk due)) (saying k s ∷ []) event next more
+-- a session says what it owes first, and goes on while it owes an answer
+abbrev pub SaysOwed : Manner → State → ℕ → ℕ → List Due → Option Event → State → List Duty → Type 0
+SaysOwed m state k s [] event next more = Did None state [] event next more
+SaysOwed m state k s (due ∷ later) event next more =
+    (reply : Reply) × (talk : Talk) × Says m (due ∷ later) (talk_of state s) reply talk
+    × Did (Some (written (out k s reply))) (with_talk state s talk) (saying k s ∷ []) event next more
 
 -- an open request gets its last word; an id that none has is passed over
 abbrev pub Treats : Told → State → ℕ → ℕ → Option OpenRequest → Option Event → State → List Duty → Type 0
@@ -120,7 +119,7 @@ Does g state (drain k) event next more = Did None state (drain_duties g k state)
 Does g state (refusing k why) event next more = Did (Some (written (bad_entry k why))) state [] event next more
 Does g state (hearing k s text) event next more =
     (talk : Talk) × Hears g.manner.tables (talk_of state s) text talk × Did (Some (comes s text)) (with_talk state s talk) (saying k s ∷ []) event next more
-Does g state (saying k s) event next more = SaysOwed state k s (talk_of state s).due event next more
+Does g state (saying k s) event next more = SaysOwed g.manner state k s (talk_of state s).due event next more
 Does g state (ticking k s) event next more = Did None state (treatings k s (talk_of state s).requests) event next more
 Does g state (treating k s id) event next more = Treats g.manner.told state k s (request_with id (talk_of state s)) event next more
 
@@ -166,4 +165,4 @@ no_tables = record { tables = []; told = λ table part. None }
 
 -- the sessions of a script stand open from the start
 abbrev pub sixteen_sessions : Setting
-sixteen_sessions = record { sessions = SESSIONS; manner = no_tables }
+sixteen_sessions = record { sessions = 16; manner = no_tables }

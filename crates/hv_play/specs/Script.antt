@@ -9,7 +9,6 @@ use Rattle.serde_json.specs.Written.{compact_text, has_float}
 use Rattle.hv_message.specs.Fields.{text_at}
 use Rattle.hv_play.specs.declared.entry.BadLine.{BadLine}
 use Rattle.hv_play.specs.declared.entry.BadLine.TheVariants as bad_line
-use Rattle.hv_play.specs.declared.lines.TheConstants.{SESSIONS}
 
 -- ---- lines
 
@@ -42,9 +41,9 @@ value_of_line bytes = if is_utf8 bytes then read bytes else None
 abbrev pub whole_at : List ℕ → Data → Option ℕ
 whole_at key value = option_and_then as_u64 (option_and_then as_number (get key value))
 
--- the session that a line names
+-- the session that a line names: there are 16, numbered from 0
 abbrev pub session_in : Data → Option ℕ
-session_in value = option_and_then (λ s. if nat_lt s SESSIONS then Some s else None) (whole_at (codes "s") value)
+session_in value = option_and_then (λ s. if nat_lt s 16 then Some s else None) (whole_at (codes "s") value)
 
 -- an object whose compact text is exact: it holds no number but those of 64 bits
 abbrev pub exact_object : Data → Option Data
@@ -66,7 +65,7 @@ text_in_line value = text_or_raw value (message_in_line value)
 
 -- whether a number is a whole one that is no session's
 abbrev pub is_outside : Num → Bool
-is_outside (unsigned n) = nat_le SESSIONS n
+is_outside (unsigned n) = nat_le 16 n
 is_outside (negative n) = true
 is_outside (float x) = false
 

@@ -51,14 +51,15 @@ pub(crate) fn read_value(alloc: Global, line: &[u8]) -> Mem<Option<Value>>
 /// The session that a line names, where it is there.
 pub(crate) fn session_in(value: &Value) -> Option<u64>
     ensures session { result ≡ line.session_in (view value.now) }
-    ensures within { IfSome result (λ s. s < SESSIONS) }
+    ensures within { IfSome result (λ s. s < 16) }
 {
     whole_at(value, "s").filter(|s| *s < SESSIONS)
 }
 
 /// The message that a line brings, where it brings one.
 pub(crate) fn message_in_line(value: &Value) -> Option<&Value>
-    ensures message { option_map (λ message. view message.now) result ≡ line.message_in_line (view value.now) }
+    ensures message { option_map (λ message. view message.now) result
+        ≡ line.message_in_line (view value.now) }
     ensures exact { IfSome result (λ message. has_float (view message.now) ≡ false) }
     ensures nests { IfSome result (λ message. depth (view message.now) ≤ depth (view value.now)) }
 {

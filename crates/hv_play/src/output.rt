@@ -18,8 +18,10 @@ use std::alloc::Global;
 
 /// Writes an output line.
 fn write_entry<O: Sink>(alloc: Global, number: u64, what: What, sink: &mut O) -> Result<(), IoErr>
-    ensures ok { OnOk result (Appends (O.taken sink.old) (O.taken sink.new) (entries_text (record { line = number; what = what } ∷ []))) }
-    ensures err { OnErr result (AppendsFront (O.taken sink.old) (O.taken sink.new) (entries_text (record { line = number; what = what } ∷ []))) }
+    ensures ok { OnOk result (Appends (O.taken sink.old) (O.taken sink.new)
+        (entries_text (record { line = number; what = what } ∷ []))) }
+    ensures err { OnErr result (AppendsFront (O.taken sink.old) (O.taken sink.new)
+        (entries_text (record { line = number; what = what } ∷ []))) }
     ensures cause { HasCause (O.faults sink.old) (O.faults sink.new) result }
 {
     let entry = Entry { line: number, what };
@@ -37,8 +39,10 @@ pub(crate) fn write_reply<O: Sink>(
     reply: Reply,
     sink: &mut O,
 ) -> Result<(), IoErr>
-    ensures ok { OnOk result (Appends (O.taken sink.old) (O.taken sink.new) (entries_text (out number s reply ∷ []))) }
-    ensures err { OnErr result (AppendsFront (O.taken sink.old) (O.taken sink.new) (entries_text (out number s reply ∷ []))) }
+    ensures ok { OnOk result (Appends (O.taken sink.old) (O.taken sink.new)
+        (entries_text (out number s reply ∷ []))) }
+    ensures err { OnErr result (AppendsFront (O.taken sink.old) (O.taken sink.new)
+        (entries_text (out number s reply ∷ []))) }
     ensures cause { HasCause (O.faults sink.old) (O.faults sink.new) result }
 {
     write_entry(alloc, number, What::Out(s, reply), sink)
@@ -52,8 +56,10 @@ fn write_replies<O: Sink>(
     answer: Answer,
     sink: &mut O,
 ) -> Result<(), IoErr>
-    ensures ok { OnOk result (Appends (O.taken sink.old) (O.taken sink.new) (entries_text (map (out number s) (replies_of answer)))) }
-    ensures err { OnErr result (AppendsFront (O.taken sink.old) (O.taken sink.new) (entries_text (map (out number s) (replies_of answer)))) }
+    ensures ok { OnOk result (Appends (O.taken sink.old) (O.taken sink.new)
+        (entries_text (map (out number s) (replies_of answer)))) }
+    ensures err { OnErr result (AppendsFront (O.taken sink.old) (O.taken sink.new)
+        (entries_text (map (out number s) (replies_of answer)))) }
     ensures cause { HasCause (O.faults sink.old) (O.faults sink.new) result }
 {
     match answer {
@@ -73,8 +79,10 @@ pub(crate) fn write_answer<O: Sink>(
     answer: LineAnswer,
     sink: &mut O,
 ) -> Result<(), IoErr>
-    ensures ok { OnOk result (Appends (O.taken sink.old) (O.taken sink.new) (entries_text (entries_by number answer))) }
-    ensures err { OnErr result (AppendsFront (O.taken sink.old) (O.taken sink.new) (entries_text (entries_by number answer))) }
+    ensures ok { OnOk result (Appends (O.taken sink.old) (O.taken sink.new)
+        (entries_text (entries_by number answer))) }
+    ensures err { OnErr result (AppendsFront (O.taken sink.old) (O.taken sink.new)
+        (entries_text (entries_by number answer))) }
     ensures cause { HasCause (O.faults sink.old) (O.faults sink.new) result }
 {
     match answer {

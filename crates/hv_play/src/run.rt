@@ -8,9 +8,9 @@ ghost use Rattle.serde_json.specs.Written.{compact_text, has_float};
 ghost use Rattle.hv_outer.specs.Causes.{HasCause};
 ghost use Rattle.hv_session.specs.Held.{replies_of};
 ghost use Rattle.hv_session.specs.Talk.{Replies, new_talk};
-ghost use Rattle.hv_play.specs.Run.{whole, early, script, drain, ticking, duties_of, round, is_anything_open, sixteen_sessions};
+ghost use Rattle.hv_play.specs.Run.{Setting, whole, early, script, drain, ticking, duties_of, round, is_anything_open, sixteen_sessions};
 ghost use Rattle.hv_play.specs.Script.{line_of, line_of_value, script_lines};
-ghost use Rattle.hv_play.specs.Steps.{at, entries_by, Shows, OneCloses, DoneSoFar, CutShort, Wrote};
+ghost use Rattle.hv_play.specs.Steps.{at, entries_by, Suits, Shows, OneCloses, DoneSoFar, CutShort, Wrote};
 
 use crate::entry::{BadLine, LineAnswer};
 use crate::fields::text_at;
@@ -28,7 +28,8 @@ use std::sync::Arc;
 fn hear_message(alloc: Global, session: &mut ScriptSession, message: &Value) -> Answer
     requires exact { has_float (view message.now) ≡ false }
     requires nests { depth (view message.now) ≤ max_depth }
-    ensures { Replies [] session.old (compact_text (view message.now)) (replies_of result) session.new }
+    ensures { Replies [] session.old (compact_text (view message.now))
+        (replies_of result) session.new }
 {
     match message.to_string(alloc) {
         Ok(text) => session.hear_value(alloc, text.as_str(), message),
@@ -38,9 +39,11 @@ fn hear_message(alloc: Global, session: &mut ScriptSession, message: &Value) -> 
 
 /// Does a line that has a value.
 fn do_value(alloc: Global, sessions: &mut [ScriptSession], value: &Value) -> LineAnswer
-    requires all { length sessions.now ≡ SESSIONS }
+    requires all { length sessions.now ≡ 16 }
     requires nests { depth (view value.now) ≤ max_depth }
-    ensures { (k : _) → Shows (duties_of k (line_of_value (Some (view value.now)))) sessions.old (entries_by k result) sessions.new }
+    ensures { (g : Setting) (k : _) → Suits g (length sessions.old)
+        → Shows g (duties_of k (line_of_value (Some (view value.now))))
+        (at sessions.old) (entries_by k result) (at sessions.new) }
 {
     let Some(s) = session_in(value) else {
         return LineAnswer::Bad(why_bad(value));
@@ -57,8 +60,10 @@ fn do_value(alloc: Global, sessions: &mut [ScriptSession], value: &Value) -> Lin
 
 /// Does a line, and gives what is said of it at once.
 fn do_line(alloc: Global, sessions: &mut [ScriptSession], line: &[u8]) -> Mem<LineAnswer>
-    requires { length sessions.now ≡ SESSIONS }
-    ensures { IfOk result (λ answer. (k : _) → Shows (duties_of k (line_of line.now)) sessions.old (entries_by k answer) sessions.new) }
+    requires { length sessions.now ≡ 16 }
+    ensures { IfOk result (λ answer. (g : Setting) (k : _) → Suits g (length sessions.old)
+        → Shows g (duties_of k (line_of line.now))
+        (at sessions.old) (entries_by k answer) (at sessions.new)) }
 {
     if line.is_empty() {
         return Ok(LineAnswer::Nothing);
@@ -78,12 +83,15 @@ fn do_first<'a, O: Sink>(
     out: &mut O,
 ) -> Result<&'a [u8], IoErr>
     requires some { 0 < length rest.now }
-    requires all { length sessions.now ≡ SESSIONS }
-    ensures ok { IfOk result (λ after. DoneSoFar (script number (script_lines rest.now) ∷ []) sessions.old
-        (script (number + 1) (script_lines after.now) ∷ []) sessions.new
-        (O.taken out.old) (O.taken out.new) (O.faults out.old) (O.faults out.new)) }
+    requires all { length sessions.now ≡ 16 }
+    ensures ok { IfOk result (λ after. (g : Setting) → Suits g (length sessions.old)
+        → DoneSoFar g (script number (script_lines rest.now) ∷ []) (at sessions.old)
+        (script (number + 1) (script_lines after.now) ∷ []) (at sessions.new)
+        (O.taken out.old) (O.taken out.new)) }
     ensures shorter { IfOk result (λ after. length after.now < length rest.now) }
-    ensures err { OnErr result (CutShort (script number (script_lines rest.now) ∷ []) sessions.old (O.taken out.old) (O.taken out.new)) }
+    ensures err { OnErr result ((g : Setting) → Suits g (length sessions.old)
+        → CutShort g (script number (script_lines rest.now) ∷ []) (at sessions.old)
+        (O.taken out.old) (O.taken out.new)) }
     ensures cause { HasCause (O.faults out.old) (O.faults out.new) result }
 {
     let (line, after) = split_line(rest);
@@ -105,12 +113,15 @@ fn do_next<'a, O: Sink>(
     out: &mut O,
 ) -> Result<&'a [u8], IoErr>
     requires some { 0 < length rest.now }
-    requires all { length sessions.now ≡ SESSIONS }
-    ensures ok { IfOk result (λ after. DoneSoFar (script number (script_lines rest.now) ∷ []) sessions.old
-        (script (number + 1) (script_lines after.now) ∷ []) sessions.new
-        (O.taken out.old) (O.taken out.new) (O.faults out.old) (O.faults out.new)) }
+    requires all { length sessions.now ≡ 16 }
+    ensures ok { IfOk result (λ after. (g : Setting) → Suits g (length sessions.old)
+        → DoneSoFar g (script number (script_lines rest.now) ∷ []) (at sessions.old)
+        (script (number + 1) (script_lines after.now) ∷ []) (at sessions.new)
+        (O.taken out.old) (O.taken out.new)) }
     ensures shorter { IfOk result (λ after. length after.now < length rest.now) }
-    ensures err { OnErr result (CutShort (script number (script_lines rest.now) ∷ []) sessions.old (O.taken out.old) (O.taken out.new)) }
+    ensures err { OnErr result ((g : Setting) → Suits g (length sessions.old)
+        → CutShort g (script number (script_lines rest.now) ∷ []) (at sessions.old)
+        (O.taken out.old) (O.taken out.new)) }
     ensures cause { HasCause (O.faults out.old) (O.faults out.new) result }
 {
     if rest[0] == b'\n' {
@@ -127,11 +138,13 @@ fn do_lines<O: Sink>(
     out: &mut O,
 ) -> Result<u64, IoErr>
     requires few { length bytes.now < 2 ^ 40 }
-    requires all { length sessions.now ≡ SESSIONS }
-    ensures ok { IfOk result (λ number. DoneSoFar (script 1 (script_lines bytes.now) ∷ []) sessions.old
-        (drain number ∷ []) sessions.new
-        (O.taken out.old) (O.taken out.new) (O.faults out.old) (O.faults out.new)) }
-    ensures err { OnErr result (CutShort (script 1 (script_lines bytes.now) ∷ []) sessions.old (O.taken out.old) (O.taken out.new)) }
+    requires all { length sessions.now ≡ 16 }
+    ensures ok { IfOk result (λ number. (g : Setting) → Suits g (length sessions.old)
+        → DoneSoFar g (script 1 (script_lines bytes.now) ∷ []) (at sessions.old)
+        (drain number ∷ []) (at sessions.new) (O.taken out.old) (O.taken out.new)) }
+    ensures err { OnErr result ((g : Setting) → Suits g (length sessions.old)
+        → CutShort g (script 1 (script_lines bytes.now) ∷ []) (at sessions.old)
+        (O.taken out.old) (O.taken out.new)) }
     ensures cause { HasCause (O.faults out.old) (O.faults out.new) result }
 {
     let mut rest = bytes;
@@ -151,11 +164,13 @@ fn answer_all<O: Sink>(
     sessions: &mut [ScriptSession],
     out: &mut O,
 ) -> Result<(), IoErr>
-    requires within { s < SESSIONS }
-    requires all { length sessions.now ≡ SESSIONS }
-    ensures ok { OnOk result (DoneSoFar (ticking number s ∷ []) sessions.old [] sessions.new (O.taken out.old) (O.taken out.new) (O.faults out.old) (O.faults out.new)) }
-    ensures closes { OnOk result (OneCloses s sessions.old sessions.new) }
-    ensures err { OnErr result (CutShort (ticking number s ∷ []) sessions.old (O.taken out.old) (O.taken out.new)) }
+    requires within { s < 16 }
+    requires all { length sessions.now ≡ 16 }
+    ensures ok { OnOk result ((g : Setting) → DoneSoFar g (ticking number s ∷ [])
+        (at sessions.old) [] (at sessions.new) (O.taken out.old) (O.taken out.new)) }
+    ensures closes { OnOk result (OneCloses s (at sessions.old) (at sessions.new)) }
+    ensures err { OnErr result ((g : Setting) → CutShort g (ticking number s ∷ [])
+        (at sessions.old) (O.taken out.old) (O.taken out.new)) }
     ensures cause { HasCause (O.faults out.old) (O.faults out.new) result }
 {
     while let Some(reply) = sessions[s as usize].answer_first(alloc) {
@@ -171,10 +186,13 @@ fn do_round<O: Sink>(
     sessions: &mut [ScriptSession],
     out: &mut O,
 ) -> Result<(), IoErr>
-    requires { length sessions.now ≡ SESSIONS }
-    ensures ok { OnOk result (DoneSoFar (round sixteen_sessions number) sessions.old [] sessions.new (O.taken out.old) (O.taken out.new) (O.faults out.old) (O.faults out.new)) }
+    requires { length sessions.now ≡ 16 }
+    ensures ok { OnOk result ((g : Setting) → Suits g (length sessions.old)
+        → DoneSoFar g (round g number) (at sessions.old) [] (at sessions.new)
+        (O.taken out.old) (O.taken out.new)) }
     ensures closed { OnOk result (is_anything_open (at sessions.new) ≡ false) }
-    ensures err { OnErr result (CutShort (round sixteen_sessions number) sessions.old (O.taken out.old) (O.taken out.new)) }
+    ensures err { OnErr result ((g : Setting) → Suits g (length sessions.old)
+        → CutShort g (round g number) (at sessions.old) (O.taken out.old) (O.taken out.new)) }
     ensures cause { HasCause (O.faults out.old) (O.faults out.new) result }
 {
     for s in 0..SESSIONS {
@@ -196,9 +214,12 @@ fn do_drain<O: Sink>(
     sessions: &mut [ScriptSession],
     out: &mut O,
 ) -> Result<(), IoErr>
-    requires { length sessions.now ≡ SESSIONS }
-    ensures ok { OnOk result (DoneSoFar (drain number ∷ []) sessions.old [] sessions.new (O.taken out.old) (O.taken out.new) (O.faults out.old) (O.faults out.new)) }
-    ensures err { OnErr result (CutShort (drain number ∷ []) sessions.old (O.taken out.old) (O.taken out.new)) }
+    requires { length sessions.now ≡ 16 }
+    ensures ok { OnOk result ((g : Setting) → Suits g (length sessions.old)
+        → DoneSoFar g (drain number ∷ []) (at sessions.old) [] (at sessions.new)
+        (O.taken out.old) (O.taken out.new)) }
+    ensures err { OnErr result ((g : Setting) → Suits g (length sessions.old)
+        → CutShort g (drain number ∷ []) (at sessions.old) (O.taken out.old) (O.taken out.new)) }
     ensures cause { HasCause (O.faults out.old) (O.faults out.new) result }
 {
     if is_any_waiting(sessions) {
@@ -209,7 +230,7 @@ fn do_drain<O: Sink>(
 
 /// The sessions of a script, which have heard nothing.
 fn new_sessions(alloc: Global) -> Mem<Vec<ScriptSession>>
-    ensures { IfOk result (λ sessions. sessions.items ≡ replicate SESSIONS new_talk) }
+    ensures { IfOk result (λ sessions. sessions.items ≡ replicate 16 new_talk) }
 {
     let catalog = Arc::new(alloc, Catalog::new(Vec::new(alloc)))?;
     let mut sessions = Vec::new(alloc);
@@ -222,8 +243,10 @@ fn new_sessions(alloc: Global) -> Mem<Vec<ScriptSession>>
 /// Does a script: its lines in order, and then the drain.
 pub(crate) fn run<O: Sink>(alloc: Global, bytes: &[u8], out: &mut O) -> Result<(), IoErr>
     requires { length bytes.now < 2 ^ 40 }
-    ensures done { OnOk result (Wrote whole bytes.now (O.taken out.old) (O.taken out.new)) }
-    ensures cut { OnErr result (Wrote early bytes.now (O.taken out.old) (O.taken out.new)) }
+    ensures done { OnOk result
+        (Wrote sixteen_sessions whole bytes.now (O.taken out.old) (O.taken out.new)) }
+    ensures cut { OnErr result
+        (Wrote sixteen_sessions early bytes.now (O.taken out.old) (O.taken out.new)) }
     ensures cause { HasCause (O.faults out.old) (O.faults out.new) result }
 {
     let mut sessions = match new_sessions(alloc) {

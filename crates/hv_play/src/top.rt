@@ -55,19 +55,25 @@ fn status_of(done: Result<(), IoErr>) -> u8
 /// the status. `words` are those after the program's name.
 pub fn play<I: Source, O: Sink>(alloc: Global, words: &[String], script: &mut I, out: &mut O) -> u8
     // The headline: what was written is right for what was read.
-    ensures done { result ≡ DONE → Traced whole (I.left script.old) (I.left script.new) (O.taken out.old) (O.taken out.new) }
+    ensures done { result ≡ 0 → Traced whole (I.left script.old) (I.left script.new)
+        (O.taken out.old) (O.taken out.new) }
 
     // Each other status has its cause, and writes nothing or a right beginning.
-    ensures usage { (result ≡ USAGE) ↔ (is_play words.now ≡ false) }
-    ensures read_fault { result ≡ READ_FAULT → Rose (I.faults script.old) (I.faults script.new) }
-    ensures write_fault { result ≡ WRITE_FAULT → Rose (O.faults out.old) (O.faults out.new) }
-    ensures cut { result ≡ WRITE_FAULT → Traced early (I.left script.old) (I.left script.new) (O.taken out.old) (O.taken out.new) }
-    ensures memory { result ≡ NO_MEMORY → Keeps (O.taken out.old) (O.taken out.new) ⊎ Traced early (I.left script.old) (I.left script.new) (O.taken out.old) (O.taken out.new) }
-    ensures long { result ≡ TOO_LONG → ReadsPast (I.left script.old) (I.left script.new) MAX_SCRIPT_BYTES }
-    ensures within { result ≡ READ_FAULT → ReadsWithin (I.left script.old) (I.left script.new) MAX_SCRIPT_BYTES }
-    ensures unread { result ≡ USAGE → script.new ≡ script.old }
-    ensures silent { (result ≡ USAGE) ⊎ (result ≡ READ_FAULT) ⊎ (result ≡ TOO_LONG) → Keeps (O.taken out.old) (O.taken out.new) }
-    ensures status { (result ≡ DONE) ⊎ (result ≡ USAGE) ⊎ (result ≡ READ_FAULT) ⊎ (result ≡ WRITE_FAULT) ⊎ (result ≡ NO_MEMORY) ⊎ (result ≡ TOO_LONG) }
+    ensures usage { (result ≡ 2) ↔ (is_play words.now ≡ false) }
+    ensures read_fault { result ≡ 3 → Rose (I.faults script.old) (I.faults script.new) }
+    ensures write_fault { result ≡ 4 → Rose (O.faults out.old) (O.faults out.new) }
+    ensures cut { result ≡ 4 → Traced early (I.left script.old) (I.left script.new)
+        (O.taken out.old) (O.taken out.new) }
+    ensures memory { result ≡ 5 → Keeps (O.taken out.old) (O.taken out.new)
+        ⊎ Traced early (I.left script.old) (I.left script.new)
+        (O.taken out.old) (O.taken out.new) }
+    ensures long { result ≡ 6 → ReadsPast (I.left script.old) (I.left script.new) 67108864 }
+    ensures within { result ≡ 3 → ReadsWithin (I.left script.old) (I.left script.new) 67108864 }
+    ensures unread { result ≡ 2 → script.new ≡ script.old }
+    ensures silent { (result ≡ 2) ⊎ (result ≡ 3) ⊎ (result ≡ 6)
+        → Keeps (O.taken out.old) (O.taken out.new) }
+    ensures status { (result ≡ 0) ⊎ (result ≡ 2) ⊎ (result ≡ 3)
+        ⊎ (result ≡ 4) ⊎ (result ≡ 5) ⊎ (result ≡ 6) }
 {
     if !are_play(words) {
         return USAGE;

@@ -4,7 +4,6 @@ ghost use Rattle.std.specs.Prelude.{◌≡◌, ◌<◌, [], ◌==◌, length, na
 ghost use Rattle.std.specs.Arc.{arc_value};
 ghost use Rattle.serde_json.specs.Read.{read};
 ghost use Rattle.serde_json.specs.View.{view};
-ghost use Rattle.hv_message.specs.declared.limits.TheConstants.{MAX_OBJECTS};
 ghost use Rattle.hv_message.specs.declared.message.Message.TheVariants as Message;
 ghost use Rattle.hv_message.specs.Meant.{CanOpen, CanServe, message_meant};
 ghost use Rattle.hv_message.specs.Messages.{is_open};
@@ -108,7 +107,7 @@ impl Session {
 
     /// Makes the next object.
     fn make(&mut self, id: u64, made: Arc<Lineage>) -> Answer
-        requires { length self.old.talk.objects < MAX_OBJECTS }
+        requires { length self.old.talk.objects < 4096 }
         ensures talk { Serves self.old.talk (Message.Make id made) (replies_of result) self.new.talk }
         ensures tables { self.new.tables ≡ self.old.tables }
     {

@@ -1,14 +1,14 @@
-use Rattle.std.proofs.Common.{◌≡◌, ◌<◌, ℕ, [], drop, get_or}
-use Rattle.hv_session.specs.Talk.{new_talk}
-use Rattle.hv_play.specs.Run.{round, sixteen_sessions}
-use Rattle.hv_play.specs.Steps.{DoneSoFar}
+use Rattle.std.proofs.Common.{◌≡◌, ◌<◌, ◌≤◌, ℕ, [], drop, length}
+use Rattle.hv_play.specs.Run.{Setting, round, talk_of}
+use Rattle.hv_play.specs.Steps.{at, DoneSoFar, Suits}
 use Rattle.hv_play.proofs.run.do_round.Given as goal
 
 -- the sessions before this one have ticked, and have no open request
 abbrev pub invariant-loop-s : goal.invariant-loop-s
 invariant-loop-s g l =
     record {
-      done : DoneSoFar (round sixteen_sessions l.number) l.fn.sessions (drop l.s (round sixteen_sessions l.number)) l.sessions
-          (g.O.Sink.taken l.fn.out) (g.O.Sink.taken l.out) (g.O.Sink.faults l.fn.out) (g.O.Sink.faults l.out);
-      closed : (t : ℕ) → t < l.s → (get_or l.sessions t new_talk).requests ≡ [];
+      done : (setting : Setting) → Suits setting (length l.fn.sessions)
+          → DoneSoFar setting (round setting l.number) (at l.fn.sessions) (drop l.s (round setting l.number)) (at l.sessions) (g.O.Sink.taken l.fn.out) (g.O.Sink.taken l.out);
+      closed : (t : ℕ) → t < l.s → (talk_of (at l.sessions) t).requests ≡ [];
+      later : g.O.Sink.faults l.fn.out ≤ g.O.Sink.faults l.out;
     }
