@@ -1,4 +1,5 @@
-// What no clause says: that with ample memory a script is done. Texts, values and refusals are the scripts of tests/.
+//! What no clause says: that with ample memory a script is done. Texts, values and refusals are the scripts of tests/.
+
 use crate::play;
 use hv_outer::{MemSink, MemSource};
 use std::alloc::Global;
