@@ -1,0 +1,4 @@
+pub mod Buckets
+pub mod Hashes
+pub mod Limits
+pub mod Places
