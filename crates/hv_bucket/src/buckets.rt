@@ -1,8 +1,8 @@
 //! Buckets of one kind or the other, the axis of a chart, and where a cell is put.
 
-ghost use Rattle.std.specs.Prelude.{◌≡◌, ◌≤◌, ◌<◌, ◌↔◌, IfOk, IsTrue};
+ghost use Rattle.std.specs.Prelude.{◌≡◌, ◌≤◌, ◌<◌, ◌↔◌, ℕ, true, IfOk, IsTrue};
 ghost use Rattle.hv_value.specs.Cells.{cell_lent};
-ghost use Rattle.hv_bucket.specs.Places.{buckets_len, place_of};
+ghost use Rattle.hv_bucket.specs.Places.{are_buckets, buckets_len, fits_axis, place_of, takes_kind};
 ghost use Rattle.std.specs.Cmp.{partial_equiv_from_equiv};
 ghost use Rattle.std.proofs.Common.{ap};
 ghost use Rattle.hv_value.specs.Same.{same_by};
@@ -10,7 +10,7 @@ ghost use Rattle.hv_value.specs.SameLaws.{same_by-decides, same_by-equiv};
 ghost use Rattle.hv_bucket.specs.Hashes.{axis_writes, buckets_writes};
 
 use crate::{IntBuckets, TextBuckets};
-use hv_value::{CellRef, Mem};
+use hv_value::{CellRef, Kind, Mem, Schema};
 use std::alloc::Global;
 use std::hash::{Hash, Hasher};
 
@@ -44,6 +44,7 @@ impl Buckets {
         ensures value { result ≡ buckets_len self.now }
         ensures some { 0 < result }
         ensures few { result ≤ 1024 }
+        ensures sound { are_buckets self.now ≡ true }
     {
         match self {
             Buckets::Int(buckets) => buckets.limits().n,
@@ -51,9 +52,29 @@ impl Buckets {
         }
     }
 
+    /// Whether cells of the kind can be put into a bucket: whole numbers and days, or texts.
+    pub fn takes(&self, kind: Kind) -> bool
+        ensures { result ≡ takes_kind self.now kind }
+    {
+        match self {
+            Buckets::Int(_) => kind != Kind::Text,
+            Buckets::Text(_) => kind == Kind::Text,
+        }
+    }
+
     /// Where a cell is put; a day by its number. A cell of another kind is outside. It takes no memory.
     #[inline(always)]
     pub fn bucket_of(&self, cell: CellRef<'_>) -> Place
+        ensures value { result ≡ place_of self.now (cell_lent cell.entry) }
+        ensures within { (bucket : ℕ) → result ≡ Place.In bucket → bucket < buckets_len self.now }
+    {
+        // for its clause `sound` alone
+        let _len = self.len();
+        self.place_of(cell)
+    }
+
+    #[inline(always)]
+    fn place_of(&self, cell: CellRef<'_>) -> Place
         ensures { result ≡ place_of self.now (cell_lent cell.entry) }
     {
         match (self, cell) {
@@ -88,6 +109,13 @@ impl Buckets {
 }
 
 impl Axis {
+    /// Whether the column is there, and of a kind whose cells can be put into a bucket.
+    pub fn fits(&self, schema: &Schema) -> bool
+        ensures { result ≡ fits_axis schema.now self.now }
+    {
+        self.col < schema.len() && self.buckets.takes(schema.kind(self.col))
+    }
+
     /// An equal axis.
     pub fn copied(&self, alloc: Global) -> Mem<Axis>
         ensures { IfOk result (λ axis. axis ≡ self.now) }
