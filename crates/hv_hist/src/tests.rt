@@ -1,0 +1,1 @@
+//! Charts over one part and over two.
