@@ -1,0 +1,5 @@
+pub mod Buckets
+pub mod Hashes
+pub mod Limits
+pub mod PlaceLaws
+pub mod Places

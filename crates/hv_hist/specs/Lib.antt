@@ -1,0 +1,3 @@
+pub mod Histogram
+pub mod Slots
+pub mod Sums
