@@ -1,0 +1,4 @@
+pub mod FitFacts
+pub mod KeyFacts
+pub mod NextFacts
+pub mod PlaceFacts

@@ -1,0 +1,7 @@
+pub mod AddKey
+pub mod Fits
+pub mod KeyOrder
+pub mod KeyPlaces
+pub mod Next
+pub mod NextLaws
+pub mod NextSums

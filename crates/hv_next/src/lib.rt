@@ -1,0 +1,15 @@
+//! The next rows of a table in an order: the first different keys above a key, each with its number of rows.
+#![tactic(auto)]
+
+mod add_key;
+mod key_ranking;
+mod laws;
+mod next_rows;
+mod same;
+mod summary;
+#[cfg(test)]
+mod tests;
+
+pub use laws::least_of_pieces;
+pub use next_rows::NextRows;
+pub use summary::{CountedKeys, NextRow, NextSummary};
