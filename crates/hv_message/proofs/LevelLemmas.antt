@@ -15,8 +15,8 @@ use Rattle.hv_lineage.specs.Lineages.{TermOver}
 use Rattle.hv_message.specs.declared.flaw.Flaw.{Flaw}
 use Rattle.hv_message.specs.declared.why.Why.{Why}
 use Rattle.hv_message.specs.Fields.{integer_at, text_at}
-use Rattle.hv_message.specs.Flaws.{all_of, both, map_ok, shaped}
-use Rattle.hv_message.specs.LineageTexts.{of_field, term_in, term_with}
+use Rattle.hv_message.specs.Flaws.{all_of, both, map_ok, of_field, shaped}
+use Rattle.hv_message.specs.LineageTexts.{term_in, term_with}
 use Rattle.hv_message.specs.Trees.{expr_in, expr_with, join_in, levels, linear_in, parts_in, pred_in, pred_with, under}
 
 -- ---- what is in a value nests less than the value

@@ -7,9 +7,9 @@ use Rattle.serde_json.specs.Data.{Data}
 use Rattle.hv_message.specs.declared.flaw.Flaw.{Flaw}
 use Rattle.hv_message.specs.declared.flaw.Flaw.TheVariants.{Field, Limit}
 use Rattle.hv_message.specs.Fields.{text_at}
-use Rattle.hv_message.specs.Flaws.{shaped, both, first_told}
+use Rattle.hv_message.specs.Flaws.{shaped, both, first_told, of_field}
 use Rattle.hv_lineage.specs.Lineages.{TermOver}
-use Rattle.hv_message.specs.LineageTexts.{of_field, term_in, term_with}
+use Rattle.hv_message.specs.LineageTexts.{term_in, term_with}
 use Rattle.hv_message.specs.declared.why.Why.TheVariants as why
 use Rattle.hv_message.specs.Trees.{pred_in, pred_with, expr_in, expr_with}
 

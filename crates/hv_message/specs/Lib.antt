@@ -3,6 +3,7 @@ pub mod Flaws
 pub mod Constants
 pub mod Trees
 pub mod Tables
+pub mod Terms
 pub mod Views
 pub mod Messages
 pub mod LineageTexts

@@ -1,10 +1,9 @@
 -- What the values that the code reads mean.
-use Rattle.hv_message.specs.declared.tables.TableAsked.{TableAsked}
-use Rattle.hv_message.specs.declared.tables.TableAsked.TheVariants.{Inline, Named}
-use Rattle.std.specs.Prelude.{◌≡◌, ◌⊎◌, ◌<◌, ℕ, pos, length, true, false, Option, Some, None, Result, Ok, Err}
+use Rattle.std.specs.Prelude.{◌≡◌, ◌⊎◌, ◌<◌, ℕ, length, true, false, Option, Some, None, Result, Ok, Err}
 use Rattle.std.specs.Arc.{arc_value}
 use Rattle.std.specs.declared.alloc.Global.{Global}
 use Rattle.std.specs.declared.sync.Arc.{Arc}
+use Rattle.hv_expr.specs.Checks.{has_fit_factors, is_fit_factor}
 use Rattle.hv_lineage.specs.Lineages.{TermOver, lineage_columns}
 use Rattle.hv_lineage.specs.declared.error.LineageErr.{LineageErr}
 use Rattle.hv_lineage.specs.declared.error.LineageErr.TheVariants as err
@@ -19,22 +18,41 @@ use Rattle.hv_message.specs.declared.refused.Refused.TheVariants.{Word, Memory}
 use Rattle.hv_message.specs.declared.why.Why.{Why}
 use Rattle.hv_message.specs.declared.why.Why.TheVariants as why
 use Rattle.hv_value.specs.Schema.{Columns, is_schema}
-use Rattle.hv_message.specs.Messages.{Meaning, makes, tells, views, cancels, ends, Reading, means, malformed, refusal_word, Known, is_open}
+use Rattle.hv_message.specs.Messages.{Meaning, makes, tells, views, cancels, ends, Reading, means, malformed, Known, is_open}
 use Rattle.hv_view.specs.Plans.{FitsPlan}
 use Rattle.hv_view.specs.declared.plan.Plan.{Plan}
 use Rattle.hv_message.specs.declared.limits.TheConstants.{MAX_OBJECTS, MAX_OPEN}
-use Rattle.hv_message.specs.declared.views.ViewAsked.{ViewAsked}
-use Rattle.hv_message.specs.declared.views.ViewAsked.TheVariants.{Range, Distinct}
-use Rattle.hv_message.specs.Tables as meant
-use Rattle.hv_message.specs.Views as seen
+use Rattle.hv_message.specs.declared.asked.Asked.{Asked}
+use Rattle.hv_message.specs.declared.asked.Asked.TheVariants as asked
+use Rattle.hv_message.specs.declared.asked.TermAsked.{TermAsked}
+use Rattle.hv_message.specs.declared.asked.TermAsked.TheVariants.{Filter, Project, Derive}
+use Rattle.hv_message.specs.Terms.{refusal_word}
 
-abbrev pub table_meant : TableAsked → meant.TableAsked
-table_meant (Inline columns parts) = meant.inline columns.items parts.items
-table_meant (Named columns name) = meant.named columns.items name
+-- what is read is wanted, or want of memory
+abbrev pub Tells : {A : Type 0} → Result A Refused → Result A Why → Type 0
+Tells (Ok x) wanted = wanted ≡ Ok x
+Tells (Err (Word word)) wanted = wanted ≡ Err word
+Tells (Err Memory) wanted = Unit {0}
 
-abbrev pub view_meant : ViewAsked → seen.ViewAsked
-view_meant (Range col) = seen.range col.now
-view_meant (Distinct col k) = seen.distinct col.now (pos k)
+-- a field that has to be there is read, or want of memory
+abbrev pub IsField : {A : Type 0} → Result A Refused → Option A → Type 0
+IsField (Ok x) found = found ≡ Some x
+IsField (Err (Word word)) found = (found ≡ None) × (word ≡ why.Field)
+IsField (Err Memory) found = Unit {0}
+
+-- the numbers of what is asked for have at most 64 bits
+abbrev pub HasFitFactors : TermAsked → Type 0
+HasFitFactors (Filter p) = Unit {0}
+HasFitFactors (Project cols) = Unit {0}
+HasFitFactors (Derive name e) = has_fit_factors e ≡ true
+
+abbrev pub HasFitNumbers : Asked → Type 0
+HasFitNumbers (asked.Load table) = Unit {0}
+HasFitNumbers (asked.Over of term) = HasFitFactors term
+HasFitNumbers (asked.Info of) = Unit {0}
+HasFitNumbers (asked.View of v) = Unit {0}
+HasFitNumbers (asked.Cancel request) = is_fit_factor request ≡ true
+HasFitNumbers asked.End = Unit {0}
 
 abbrev pub message_meant : Message → Meaning
 message_meant (Make id made) = makes id (arc_value made)

@@ -1,14 +1,22 @@
--- Tables that a load gives: one in the message, or one of the catalog by its name.
-use Rattle.std.specs.Prelude.{ℕ, ◌^◌, List, length, Bool, true, ◌&&◌, nat_lt, nat_le, if◌then◌else◌, Option, Some, None, option_map, option_and_then, Result, Ok, bytes_eq, codes}
+-- Tables that a load or a lineage's base gives: one in the text, or one of the catalog by its name.
+use Rattle.std.specs.Prelude.{ℕ, ◌^◌, List, length, Bool, true, ◌&&◌, nat_lt, nat_le, if◌then◌else◌, Option, Some, None, option_map, option_and_then, Result, Ok, Err, bytes_eq, codes}
 use Rattle.std.specs.List.{list_all}
 use Rattle.serde_json.specs.Data.{Data, Items, no_items, item}
 use Rattle.serde_json.specs.Find.{get, as_str, as_array}
 use Rattle.hv_value.specs.declared.cell.Kind.{Kind}
 use Rattle.hv_value.specs.declared.cell.Kind.TheVariants as kind
 use Rattle.hv_value.specs.declared.catalog.TheConstants.{MAX_PARTITIONS}
-use Rattle.hv_value.specs.Schema.{Columns}
-use Rattle.hv_message.specs.declared.flaw.Flaw.{Flaw}
-use Rattle.hv_message.specs.Flaws.{shaped, limited}
+use Rattle.hv_value.specs.Catalog.{Tables, parts_named}
+use Rattle.hv_value.specs.Schema.{Columns, is_schema}
+use Rattle.hv_lineage.specs.declared.base.Base.{Base}
+use Rattle.hv_lineage.specs.declared.base.Base.TheVariants as base
+use Rattle.hv_lineage.specs.declared.term.Term.TheVariants as term
+use Rattle.hv_lineage.specs.Lineages.{TermOver}
+use Rattle.hv_message.specs.declared.asked.TableAsked.{TableAsked}
+use Rattle.hv_message.specs.declared.asked.TableAsked.TheVariants.{Inline, Named}
+use Rattle.hv_message.specs.declared.why.Why.{Why}
+use Rattle.hv_message.specs.declared.why.Why.TheVariants as why
+use Rattle.hv_message.specs.Flaws.{of_field}
 use Rattle.hv_message.specs.Fields.{text_at, list_at, texts_at, all_read}
 
 -- the kind that a word names
@@ -36,10 +44,24 @@ column_of value = option_and_then column_of_items (as_array value)
 abbrev pub columns_in : Data → Option Columns
 columns_in value = option_and_then (all_read column_of) (list_at (codes "schema") value)
 
--- a table as a load gives it: its columns and the CSV text of each partition, or its columns and its name
-pub data TableAsked : Type 0 where
-  inline : Columns → List (List ℕ) → TableAsked
-  named : Columns → List ℕ → TableAsked
+-- ---- what a table asks for
+
+abbrev pub inline_of : Data → Result TableAsked Why
+inline_of value = of_field (texts_at (codes "parts") value) (λ parts. of_field (columns_in value) (λ columns. Ok (Inline columns parts)))
+
+abbrev pub named_of : Data → Result TableAsked Why
+named_of value = of_field (text_at (codes "table") value) (λ name. of_field (columns_in value) (λ columns. Ok (Named columns name)))
+
+-- the form that is given whole where there is one, else the named form
+abbrev pub table_of : Option Data → Option Data → Result TableAsked Why
+table_of None other = of_field other named_of
+table_of (Some value) other = inline_of value
+
+-- the table under a key
+abbrev pub table_in : List ℕ → Data → Result TableAsked Why
+table_in key value = of_field (get key value) (λ table. table_of (get (codes "inline") table) (get (codes "named") table))
+
+-- ---- its limits
 
 -- whether a partition has fewer than 2^26 bytes
 abbrev pub is_short_part : List ℕ → Bool
@@ -49,20 +71,20 @@ is_short_part text = nat_lt (length text) (2 ^ 26)
 abbrev pub are_parts : List (List ℕ) → Bool
 are_parts parts = nat_le (length parts) MAX_PARTITIONS && list_all is_short_part parts
 
-abbrev pub is_fit_table : TableAsked → Bool
-is_fit_table (inline columns parts) = are_parts parts
-is_fit_table (named columns name) = true
+abbrev pub fits_table : TableAsked → Bool
+fits_table (Inline columns parts) = are_parts parts
+fits_table (Named columns name) = true
 
-abbrev pub inline_of : Data → Result TableAsked Flaw
-inline_of value = shaped (texts_at (codes "parts") value) (λ parts. shaped (columns_in value) (λ columns. limited (are_parts parts) (inline columns parts)))
+-- ---- what it means
 
-abbrev pub named_of : Data → Result TableAsked Flaw
-named_of value = shaped (text_at (codes "table") value) (λ name. shaped (columns_in value) (λ columns. Ok (named columns name)))
+-- the base as it is, with columns that make a schema
+abbrev pub over : Columns → Base → Result TermOver Why
+over columns b = if is_schema columns then Ok (record { base = b; term = term.Base }) else Err why.Schema
 
--- the form in the message where there is one, else the named form
-abbrev pub table_of : Option Data → Option Data → Result TableAsked Flaw
-table_of None other = shaped other named_of
-table_of (Some value) other = inline_of value
+abbrev pub named_over : Columns → List ℕ → Option ℕ → Result TermOver Why
+named_over columns name None = Err why.Table
+named_over columns name (Some parts) = over columns (base.Named columns name parts)
 
-abbrev pub table_in : Data → Result TableAsked Flaw
-table_in value = shaped (get (codes "table") value) (λ table. table_of (get (codes "inline") table) (get (codes "named") table))
+abbrev pub loaded : Tables → TableAsked → Result TermOver Why
+loaded tables (Inline columns parts) = over columns (base.Inline columns parts)
+loaded tables (Named columns name) = named_over columns name (parts_named name tables)

@@ -1,12 +1,18 @@
 //! The fields of JSON values. What each means is said in specs/Fields.antt.
 
-ghost use Rattle.std.specs.Prelude.{◌≡◌, true, option_map, IfSome};
-ghost use Rattle.serde_json.specs.Find.{as_integer};
+ghost use Rattle.std.specs.Prelude.{◌≡◌, ◌++◌, true, option_map, IfOk, IfSome};
+ghost use Rattle.serde_json.specs.Find.{as_integer, as_str, get};
 ghost use Rattle.serde_json.specs.View.{view, items_view, number_view};
 ghost use Rattle.hv_expr.specs.Checks.{is_fit_factor};
 ghost use Rattle.hv_message.specs.Fields as field;
+ghost use Rattle.hv_message.specs.Flaws.{map_ok};
+ghost use Rattle.hv_message.specs.Meant.{IsField};
 
+use crate::Why;
+use crate::refused::Refused;
+use hv_value::{Listed, Text};
 use serde_json::{Number, Value};
+use std::alloc::Global;
 
 /// The whole number of at most 64 bits under a key, -2^63 to 2^64 - 1.
 pub(crate) fn integer_at(value: &Value, key: &str) -> Option<i128>
@@ -45,4 +51,71 @@ pub(crate) fn list_at<'a>(value: &'a Value, key: &str) -> Option<&'a [Value]>
         ≡ field.list_at key.now (view value.now) }
 {
     value.get(key).and_then(Value::as_array).map(Vec::as_slice)
+}
+
+/// The value of a field that has to be there.
+pub(crate) fn field<'a>(value: &'a Value, key: &str) -> Result<&'a Value, Refused>
+    ensures { IsField (map_ok (λ found. view found.now) result) (get key.now (view value.now)) }
+{
+    match value.get(key) {
+        Some(found) => Ok(found),
+        None => Err(Refused::Word(Why::Field)),
+    }
+}
+
+/// The whole number of at most 64 bits of a field.
+pub(crate) fn number(value: &Value, key: &str) -> Result<i128, Refused>
+    ensures value { IsField result (field.integer_at key.now (view value.now)) }
+    ensures fit { IfOk result (λ n. is_fit_factor n ≡ true) }
+{
+    match integer_at(value, key) {
+        Some(n) => Ok(n),
+        None => Err(Refused::Word(Why::Field)),
+    }
+}
+
+/// The word of a field.
+pub(crate) fn word<'a>(value: &'a Value, key: &str) -> Result<&'a str, Refused>
+    ensures { IsField (map_ok (λ text. text.now) result) (field.text_at key.now (view value.now)) }
+{
+    match text_at(value, key) {
+        Some(text) => Ok(text),
+        None => Err(Refused::Word(Why::Field)),
+    }
+}
+
+/// The name, in memory of its own, of a field.
+pub(crate) fn name(alloc: Global, value: &Value, key: &str) -> Result<Text, Refused>
+    ensures { IsField result (field.text_at key.now (view value.now)) }
+{
+    match text_at(value, key) {
+        Some(text) => Ok(Text::of(alloc, text)?),
+        None => Err(Refused::Word(Why::Field)),
+    }
+}
+
+/// The texts of a list.
+fn all_texts(alloc: Global, items: &[Value]) -> Result<Listed<Text>, Refused>
+    ensures { IsField result (field.all_read as_str (items_view items.now)) }
+{
+    let mut found = Listed::new(alloc);
+    let mut rest = items;
+    while let [first, after @ ..] = rest {
+        let Some(text) = first.as_str() else {
+            return Err(Refused::Word(Why::Field));
+        };
+        found.push(Text::of(alloc, text)?)?;
+        rest = after;
+    }
+    Ok(found)
+}
+
+/// The names of a field that is a list of texts.
+pub(crate) fn names(alloc: Global, value: &Value, key: &str) -> Result<Listed<Text>, Refused>
+    ensures { IsField result (field.texts_at key.now (view value.now)) }
+{
+    match list_at(value, key) {
+        Some(list) => all_texts(alloc, list),
+        None => Err(Refused::Word(Why::Field)),
+    }
 }

@@ -1,6 +1,7 @@
 //! Messages: what a text that a client sends means, or the one word that says why it is malformed.
 #![tactic(auto)]
 
+mod asked;
 mod constants;
 mod exprs;
 mod fields;
@@ -16,6 +17,7 @@ mod read;
 mod refused;
 mod state;
 mod tables;
+mod terms;
 mod views;
 mod why;
 

@@ -1,91 +1,36 @@
 //! Reads lineages: a base, and the terms over it from the inside out. What a text means is `lineage_of_text`
 //! (specs/LineageTexts.antt).
 
-ghost use Rattle.std.specs.Prelude.{◌≡◌, true, codes, IfOk};
+ghost use Rattle.std.specs.Prelude.{◌≡◌, codes};
 ghost use Rattle.std.specs.Arc.{arc_value};
 ghost use Rattle.serde_json.specs.Find.{get};
 ghost use Rattle.serde_json.specs.View.{view};
-ghost use Rattle.hv_message.specs.Flaws.{map_ok};
+ghost use Rattle.hv_message.specs.Flaws.{of_field};
 ghost use Rattle.hv_message.specs.LineageTexts as read;
-ghost use Rattle.hv_message.specs.Meant.{IsMade, IsRead, table_meant};
-ghost use Rattle.hv_message.specs.Tables.{is_fit_table};
+ghost use Rattle.hv_message.specs.Meant.{IsMade, IsRead};
 
-use crate::exprs::whole_expr;
-use crate::fields::text_at;
-use crate::made::{derived, filtered, loaded, projected};
-use crate::preds::{dated_pred, whole_pred};
-use crate::refused::{Refused, flawed};
-use crate::tables::{TableAsked, inline_of, named_in, texts_at};
-use crate::{Flaw, LEVELS, Refusal, Why};
+use crate::fields::{field, word};
+use crate::made::loaded;
+use crate::operations::shared;
+use crate::refused::Refused;
+use crate::tables::table_in;
+use crate::terms::{applied, derive_of, filter_of, project_of};
+use crate::{LEVELS, Refusal, Why};
 use hv_lineage::Lineage;
-use hv_value::{Catalog, Mem, Text};
+use hv_value::Catalog;
 use serde_json::Value;
 use std::alloc::Global;
 use std::sync::Arc;
-
-/// The base that a value gives, in the form in which a load gives a table.
-fn base_asked(alloc: Global, value: &Value) -> Mem<Result<TableAsked, Flaw>>
-    ensures value { IfOk result (λ asked. map_ok table_meant asked ≡ read.base_asked (view value.now)) }
-    ensures fit { IfOk result (λ asked. IfOk asked (λ t. is_fit_table (table_meant t) ≡ true)) }
-{
-    let Some(forms) = value.get("base") else {
-        return Ok(Err(Flaw::Field));
-    };
-    match forms.get("inline") {
-        Some(inline) => inline_of(alloc, inline),
-        None => named_in(alloc, forms),
-    }
-}
 
 /// The lineage of the base.
 fn base_in(alloc: Global, value: &Value, catalog: &Catalog) -> Result<Arc<Lineage>, Refused>
     ensures { IsMade result (read.base_in catalog.now (view value.now)) }
 {
-    match base_asked(alloc, value)? {
-        Ok(table) => loaded(alloc, catalog, table),
-        Err(flaw) => Err(flawed(flaw)),
-    }
-}
-
-/// The rows of a lineage of which the predicate of a term holds.
-fn filter_over(alloc: Global, of: &Arc<Lineage>, value: &Value) -> Result<Arc<Lineage>, Refused>
-    ensures { IsMade result (read.filter_over (view value.now) (arc_value of.now)) }
-{
-    let Some(given) = value.get("pred") else {
-        return Err(Refused::Word(Why::Field));
-    };
-    match whole_pred(alloc, given)? {
-        Ok(pred) => {
-            let dated = dated_pred(alloc, &pred, of.schema())?;
-            filtered(alloc, of, dated)
-        }
-        Err(flaw) => Err(flawed(flaw)),
-    }
-}
-
-/// The columns of a lineage that a term names.
-fn project_over(alloc: Global, of: &Arc<Lineage>, value: &Value) -> Result<Arc<Lineage>, Refused>
-    ensures { IsMade result (read.project_over (view value.now) (arc_value of.now)) }
-{
-    match texts_at(alloc, value, "cols")? {
-        Some(cols) => projected(alloc, of, cols),
-        None => Err(Refused::Word(Why::Field)),
-    }
-}
-
-/// A lineage with the column that a term derives.
-fn derive_over(alloc: Global, of: &Arc<Lineage>, value: &Value) -> Result<Arc<Lineage>, Refused>
-    ensures { IsMade result (read.derive_over (view value.now) (arc_value of.now)) }
-{
-    let Some(name) = text_at(value, "name") else {
-        return Err(Refused::Word(Why::Field));
-    };
-    let Some(given) = value.get("expr") else {
-        return Err(Refused::Word(Why::Field));
-    };
-    match whole_expr(alloc, given)? {
-        Ok(expr) => derived(alloc, of, Text::of(alloc, name)?, expr),
-        Err(flaw) => Err(flawed(flaw)),
+    let table = table_in(alloc, value, "base")?;
+    if table.fits() {
+        loaded(alloc, catalog, table)
+    } else {
+        Err(Refused::Word(Why::Limit))
     }
 }
 
@@ -103,10 +48,8 @@ fn term_in(
     if levels == 0 {
         return Err(Refused::Word(Why::Field));
     }
-    match text_at(value, "t") {
-        Some(word) => term_with(alloc, levels - 1, base, value, word),
-        None => Err(Refused::Word(Why::Field)),
-    }
+    let word = word(value, "t")?;
+    term_with(alloc, levels - 1, base, value, word)
 }
 
 #[cycle(term_in)]
@@ -125,15 +68,15 @@ fn term_with(
         "base" => Ok(shared(base)?),
         "filter" => {
             let of = inner_in(alloc, levels, base, value)?;
-            filter_over(alloc, &of, value)
+            applied(alloc, &of, filter_of(alloc, value)?)
         }
         "project" => {
             let of = inner_in(alloc, levels, base, value)?;
-            project_over(alloc, &of, value)
+            applied(alloc, &of, project_of(alloc, value)?)
         }
         "derive" => {
             let of = inner_in(alloc, levels, base, value)?;
-            derive_over(alloc, &of, value)
+            applied(alloc, &of, derive_of(alloc, value)?)
         }
         _ => Err(Refused::Word(Why::Field)),
     }
@@ -148,18 +91,9 @@ fn inner_in(
     value: &Value,
 ) -> Result<Arc<Lineage>, Refused>
     ensures { IsMade result
-        (read.of_field (get (codes "of") (view value.now)) (read.term_in levels (arc_value base.now))) }
+        (of_field (get (codes "of") (view value.now)) (read.term_in levels (arc_value base.now))) }
 {
-    match value.get("of") {
-        Some(of) => term_in(alloc, levels, base, of),
-        None => Err(Refused::Word(Why::Field)),
-    }
-}
-
-fn shared(lineage: &Arc<Lineage>) -> Mem<Arc<Lineage>>
-    ensures { IfOk result (λ copy. arc_value copy ≡ arc_value lineage.now) }
-{
-    Ok(Arc::try_clone(lineage)?)
+    term_in(alloc, levels, base, field(value, "of")?)
 }
 
 #[tactic(auto, unfolding(crate::specs::LineageTexts::lineage_of_data))]
@@ -167,10 +101,7 @@ fn lineage_in(alloc: Global, value: &Value, catalog: &Catalog) -> Result<Arc<Lin
     ensures { IsMade result (read.lineage_of_data catalog.now (view value.now)) }
 {
     let base = base_in(alloc, value, catalog)?;
-    match value.get("term") {
-        Some(term) => term_in(alloc, LEVELS, &base, term),
-        None => Err(Refused::Word(Why::Field)),
-    }
+    term_in(alloc, LEVELS, &base, field(value, "term")?)
 }
 
 /// Reads a lineage that is given as the value of its text. Malformed, with no id: the first check that fails, from
@@ -206,6 +137,7 @@ pub fn read_lineage(alloc: Global, text: &str, catalog: &Catalog) -> Result<Arc<
 #[cfg(test)]
 mod tests {
     use super::*;
+    use hv_value::Text;
     use std::test::Fail;
 
     /// A catalog with the table `t` of two partitions.

@@ -1,56 +1,57 @@
-//! Lineages that messages make, with the words of their refusals.
+//! Lineages of tables that are given.
 
 ghost use Rattle.std.specs.Prelude.{◌≡◌, ◌≤◌, true};
 ghost use Rattle.hv_lineage.specs.declared.base.Base.TheVariants as base;
 ghost use Rattle.hv_value.specs.declared.catalog.TheConstants.{MAX_PARTITIONS};
-ghost use Rattle.std.specs.Arc.{arc_value};
-ghost use Rattle.hv_expr.specs.Checks.{has_fit_factors};
-ghost use Rattle.hv_lineage.specs.Lineages.{derive_refusal, derived, filter_refusal, filtered, project_refusal, projected};
-ghost use Rattle.hv_message.specs.Meant.{IsMade, IsSchemaOf, table_meant};
-ghost use Rattle.hv_message.specs.Messages as means;
-ghost use Rattle.hv_message.specs.Tables.{are_parts, is_fit_table};
+ghost use Rattle.hv_message.specs.Meant.{IsMade, IsSchemaOf};
+ghost use Rattle.hv_message.specs.Tables as given;
 
 use crate::Why;
-use crate::refused::{Refused, unmade};
-use crate::tables::TableAsked;
-use hv_expr::{Expr, Pred};
+use crate::asked::TableAsked;
+use crate::refused::Refused;
 use hv_lineage::{Base, Lineage};
-use hv_value::{Catalog, Kind, Schema, SchemaErr, Text};
+use hv_value::{Catalog, Kind, Listed, Schema, SchemaErr, Text};
 use sqlite_items::Items;
 use std::alloc::Global;
 use std::sync::Arc;
 
-fn schema_of(columns: Vec<(Text, Kind)>) -> Result<Schema, Refused>
-    ensures { IsSchemaOf result columns.items }
+fn schema_of(columns: Listed<(Text, Kind)>) -> Result<Schema, Refused>
+    ensures { IsSchemaOf result columns }
 {
-    match Schema::new(columns) {
+    match Schema::new(columns.into_vec()) {
         Ok(schema) => Ok(schema),
         Err(SchemaErr::BadSchema) => Err(Refused::Word(Why::Schema)),
         Err(SchemaErr::Memory) => Err(Refused::Memory),
     }
 }
 
+fn items_of(texts: Listed<Text>) -> Items<Text>
+    ensures { result ≡ texts }
+{
+    Items::from_vec(texts.into_vec())
+}
+
 fn inline_over(
     alloc: Global,
-    columns: Vec<(Text, Kind)>,
-    parts: Vec<Text>,
+    columns: Listed<(Text, Kind)>,
+    parts: Listed<Text>,
 ) -> Result<Arc<Lineage>, Refused>
-    requires { are_parts parts.items ≡ true }
-    ensures { IsMade result (means.over columns.items (base.Inline columns.items parts.items)) }
+    requires { given.are_parts parts ≡ true }
+    ensures { IsMade result (given.over columns (base.Inline columns parts)) }
 {
     let schema = schema_of(columns)?;
-    let parts = Items::from_vec(parts);
+    let parts = items_of(parts);
     Ok(Lineage::base(alloc, Base::Inline { schema, parts })?)
 }
 
 fn named_over(
     alloc: Global,
-    columns: Vec<(Text, Kind)>,
+    columns: Listed<(Text, Kind)>,
     table: Text,
     parts: u32,
 ) -> Result<Arc<Lineage>, Refused>
     requires { parts ≤ MAX_PARTITIONS }
-    ensures { IsMade result (means.over columns.items (base.Named columns.items table parts)) }
+    ensures { IsMade result (given.over columns (base.Named columns table parts)) }
 {
     let schema = schema_of(columns)?;
     let base = Base::Named {
@@ -61,14 +62,14 @@ fn named_over(
     Ok(Lineage::base(alloc, base)?)
 }
 
-/// The lineage of a table that a load gives.
+/// The lineage of a table that is within its limits.
 pub(crate) fn loaded(
     alloc: Global,
     catalog: &Catalog,
     asked: TableAsked,
 ) -> Result<Arc<Lineage>, Refused>
-    requires { is_fit_table (table_meant asked) ≡ true }
-    ensures { IsMade result (means.loaded catalog.now (table_meant asked)) }
+    requires { given.fits_table asked ≡ true }
+    ensures { IsMade result (given.loaded catalog.now asked) }
 {
     match asked {
         TableAsked::Inline(columns, parts) => inline_over(alloc, columns, parts),
@@ -76,52 +77,5 @@ pub(crate) fn loaded(
             Some(parts) => named_over(alloc, columns, name, parts),
             None => Err(Refused::Word(Why::Table)),
         },
-    }
-}
-
-pub(crate) fn filtered(
-    alloc: Global,
-    lineage: &Arc<Lineage>,
-    pred: Pred,
-) -> Result<Arc<Lineage>, Refused>
-    ensures { IsMade result
-        (means.unless_refused (filter_refusal (arc_value lineage.now) pred)
-        (filtered (arc_value lineage.now) pred)) }
-{
-    match Lineage::filter(alloc, lineage, pred) {
-        Ok(made) => Ok(made),
-        Err(error) => Err(unmade(error)),
-    }
-}
-
-pub(crate) fn projected(
-    alloc: Global,
-    lineage: &Arc<Lineage>,
-    cols: Vec<Text>,
-) -> Result<Arc<Lineage>, Refused>
-    ensures { IsMade result
-        (means.unless_refused (project_refusal (arc_value lineage.now) cols.items)
-        (projected (arc_value lineage.now) cols.items)) }
-{
-    match Lineage::project(alloc, lineage, cols) {
-        Ok(made) => Ok(made),
-        Err(error) => Err(unmade(error)),
-    }
-}
-
-pub(crate) fn derived(
-    alloc: Global,
-    lineage: &Arc<Lineage>,
-    name: Text,
-    expr: Expr,
-) -> Result<Arc<Lineage>, Refused>
-    requires { has_fit_factors expr ≡ true }
-    ensures { IsMade result
-        (means.unless_refused (derive_refusal (arc_value lineage.now) name expr)
-        (derived (arc_value lineage.now) name expr)) }
-{
-    match Lineage::derive(alloc, lineage, name, expr) {
-        Ok(made) => Ok(made),
-        Err(error) => Err(unmade(error)),
     }
 }

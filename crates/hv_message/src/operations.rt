@@ -1,34 +1,77 @@
-//! Operations: what each asks for and what it means in a session, one small function a check, in the order in which
-//! the checks are tried. The definition is `meaning` (specs/Messages.antt).
+//! Operations: what each asks for, whether that is within its limits, and what it means in a session. The definitions
+//! are `asked` and `meaning` (specs/Messages.antt).
 
 ghost use Rattle.std.specs.Prelude.{◌≡◌, true, false, IfOk};
-ghost use Rattle.hv_lineage.specs.Lineages.{lineage_columns};
-ghost use Rattle.hv_view.specs.Plans.{FitsPlan};
-ghost use Rattle.hv_message.specs.Messages.{is_open};
 ghost use Rattle.std.specs.Arc.{arc_value};
 ghost use Rattle.serde_json.specs.View.{view};
-ghost use Rattle.hv_expr.specs.Checks.{has_fit_factors, is_fit_factor};
-ghost use Rattle.hv_message.specs.Flaws.{and_then, map_ok};
-ghost use Rattle.hv_message.specs.Meant.{IsAnswer, table_meant, view_meant};
+ghost use Rattle.hv_expr.specs.Checks.{is_fit_factor};
+ghost use Rattle.hv_lineage.specs.Lineages.{lineage_columns};
+ghost use Rattle.hv_view.specs.Plans.{FitsPlan};
+ghost use Rattle.hv_message.specs.declared.asked.Asked.TheVariants as asked;
+ghost use Rattle.hv_message.specs.Meant.{HasFitFactors, HasFitNumbers, IsAnswer, Tells};
 ghost use Rattle.hv_message.specs.Messages as means;
-ghost use Rattle.hv_message.specs.Tables.{table_in};
-ghost use Rattle.hv_message.specs.Views as seen;
+ghost use Rattle.hv_message.specs.Messages.{is_open};
+ghost use Rattle.hv_message.specs.Tables.{fits_table};
+ghost use Rattle.hv_message.specs.Views.{fits_view};
 
-use crate::exprs::whole_expr;
-use crate::fields::{integer_at, text_at};
-use crate::made::{derived, filtered, loaded, projected};
-use crate::preds::{dated_pred, whole_pred};
-use crate::refused::{Refused, flawed};
-use crate::tables::{table_in, texts_at};
-use crate::views::{ViewAsked, planned, view_in};
+use crate::asked::{Asked, TableAsked, TermAsked, ViewAsked};
+use crate::fields::number;
+use crate::made::loaded;
+use crate::refused::Refused;
+use crate::tables::table_in;
+use crate::terms::{applied, derive_of, filter_of, project_of};
+use crate::views::{planned, view_in};
 use crate::{Message, TalkState, Why};
-use hv_expr::{Expr, Pred};
 use hv_lineage::Lineage;
-use hv_value::{Mem, Text};
+use hv_value::Mem;
 use hv_view::Plan;
 use serde_json::Value;
 use std::alloc::Global;
 use std::sync::Arc;
+
+/// What an operation asks for, by its word.
+fn shape(alloc: Global, value: &Value, op: &str) -> Result<Asked, Refused>
+    ensures value { Tells result (means.shape (view value.now) op.now) }
+    ensures fit { IfOk result HasFitNumbers }
+{
+    match op {
+        "load" => Ok(Asked::Load(table_in(alloc, value, "table")?)),
+        "filter" => {
+            let of = number(value, "of")?;
+            Ok(Asked::Over(of, filter_of(alloc, value)?))
+        }
+        "project" => {
+            let of = number(value, "of")?;
+            Ok(Asked::Over(of, project_of(alloc, value)?))
+        }
+        "derive" => {
+            let of = number(value, "of")?;
+            Ok(Asked::Over(of, derive_of(alloc, value)?))
+        }
+        "info" => Ok(Asked::Info(number(value, "of")?)),
+        "view" => {
+            let of = number(value, "of")?;
+            Ok(Asked::View(of, view_in(alloc, value)?))
+        }
+        "cancel" => Ok(Asked::Cancel(number(value, "request")?)),
+        "end" => Ok(Asked::End),
+        _ => Err(Refused::Word(Why::Op)),
+    }
+}
+
+/// What an operation asks for, within its limits.
+fn asked(alloc: Global, value: &Value, op: &str) -> Result<Asked, Refused>
+    ensures value { Tells result (means.asked (view value.now) op.now) }
+    ensures limits { IfOk result (λ a. means.fits a ≡ true) }
+    ensures fit { IfOk result HasFitNumbers }
+{
+    let asked = shape(alloc, value, op)?;
+    if asked.fits() {
+        Ok(asked)
+    } else {
+        Err(Refused::Word(Why::Limit))
+    }
+}
 
 /// What an operation means in a session.
 pub(crate) fn operation(
@@ -39,19 +82,26 @@ pub(crate) fn operation(
     op: &str,
 ) -> Result<Message, Refused>
     requires { is_open id state.now.requests ≡ false }
-    ensures { IsAnswer state.now id result
-        (and_then (means.meaning state.now id) (means.asked (view value.now) op.now)) }
+    ensures { IsAnswer state.now id result (means.operated state.now id (view value.now) op.now) }
 {
-    match op {
-        "load" => load(alloc, state, id, value),
-        "filter" => filter(alloc, state, id, value),
-        "project" => project(alloc, state, id, value),
-        "derive" => derive(alloc, state, id, value),
-        "info" => info(state, id, value),
-        "view" => look(state, id, value),
-        "cancel" => cancel(state, id, value),
-        "end" => Ok(Message::End { id }),
-        _ => Err(Refused::Word(Why::Op)),
+    let asked = asked(alloc, value, op)?;
+    meaning(alloc, state, id, asked)
+}
+
+/// What is asked for means in a session.
+fn meaning(alloc: Global, state: &TalkState, id: u64, asked: Asked) -> Result<Message, Refused>
+    requires free { is_open id state.now.requests ≡ false }
+    requires limits { means.fits asked ≡ true }
+    requires fit { HasFitNumbers asked }
+    ensures { IsAnswer state.now id result (means.meaning state.now id asked) }
+{
+    match asked {
+        Asked::Load(table) => load(alloc, state, id, table),
+        Asked::Over(of, term) => over(alloc, state, id, of, term),
+        Asked::Info(of) => info(state, id, of),
+        Asked::View(of, wanted) => look(state, id, of, &wanted),
+        Asked::Cancel(request) => cancel(state, id, request),
+        Asked::End => Ok(Message::End { id }),
     }
 }
 
@@ -66,179 +116,59 @@ fn made_in(state: &TalkState, id: u64, made: Arc<Lineage>) -> Result<Message, Re
     }
 }
 
-fn load(alloc: Global, state: &TalkState, id: u64, value: &Value) -> Result<Message, Refused>
-    ensures { IsAnswer state.now id result
-        (and_then (means.meaning state.now id)
-        (means.flawless (map_ok means.load (table_in (view value.now))))) }
+fn load(alloc: Global, state: &TalkState, id: u64, table: TableAsked) -> Result<Message, Refused>
+    requires { fits_table table ≡ true }
+    ensures { IsAnswer state.now id result (means.meaning state.now id (asked.Load table)) }
 {
-    match table_in(alloc, value)? {
-        Ok(table) => {
-            let made = loaded(alloc, state.catalog(), table)?;
-            made_in(state, id, made)
-        }
-        Err(flaw) => Err(flawed(flaw)),
-    }
+    let made = loaded(alloc, state.catalog(), table)?;
+    made_in(state, id, made)
 }
 
-fn filter(alloc: Global, state: &TalkState, id: u64, value: &Value) -> Result<Message, Refused>
-    ensures { IsAnswer state.now id result
-        (and_then (means.meaning state.now id)
-        (means.flawless (means.filter_asked (view value.now)))) }
-{
-    let Some(of) = integer_at(value, "of") else {
-        return Err(Refused::Word(Why::Field));
-    };
-    let Some(given) = value.get("pred") else {
-        return Err(Refused::Word(Why::Field));
-    };
-    match whole_pred(alloc, given)? {
-        Ok(pred) => filter_of(alloc, state, id, of, &pred),
-        Err(flaw) => Err(flawed(flaw)),
-    }
-}
-
-fn filter_of(
+fn over(
     alloc: Global,
     state: &TalkState,
     id: u64,
     of: i128,
-    pred: &Pred,
+    term: TermAsked,
 ) -> Result<Message, Refused>
-    ensures { IsAnswer state.now id result (means.meaning state.now id (means.filter of pred.now)) }
+    requires { HasFitFactors term }
+    ensures { IsAnswer state.now id result (means.meaning state.now id (asked.Over of term)) }
 {
-    match state.object(of) {
-        Some(lineage) => {
-            let dated = dated_pred(alloc, pred, lineage.schema())?;
-            let made = filtered(alloc, lineage, dated)?;
-            made_in(state, id, made)
-        }
-        None => Err(Refused::Word(Why::Object)),
-    }
-}
-
-fn project(alloc: Global, state: &TalkState, id: u64, value: &Value) -> Result<Message, Refused>
-    ensures { IsAnswer state.now id result
-        (and_then (means.meaning state.now id)
-        (means.flawless (means.project_asked (view value.now)))) }
-{
-    let Some(of) = integer_at(value, "of") else {
-        return Err(Refused::Word(Why::Field));
+    let Some(lineage) = state.object(of) else {
+        return Err(Refused::Word(Why::Object));
     };
-    match texts_at(alloc, value, "cols")? {
-        Some(cols) => project_of(alloc, state, id, of, cols),
-        None => Err(Refused::Word(Why::Field)),
-    }
+    let made = applied(alloc, lineage, term)?;
+    made_in(state, id, made)
 }
 
-fn project_of(
-    alloc: Global,
-    state: &TalkState,
-    id: u64,
-    of: i128,
-    cols: Vec<Text>,
-) -> Result<Message, Refused>
-    ensures { IsAnswer state.now id result (means.meaning state.now id (means.project of cols.items)) }
+fn info(state: &TalkState, id: u64, of: i128) -> Result<Message, Refused>
+    ensures { IsAnswer state.now id result (means.meaning state.now id (asked.Info of)) }
 {
-    match state.object(of) {
-        Some(lineage) => {
-            let made = projected(alloc, lineage, cols)?;
-            made_in(state, id, made)
-        }
-        None => Err(Refused::Word(Why::Object)),
-    }
+    let Some(lineage) = state.object(of) else {
+        return Err(Refused::Word(Why::Object));
+    };
+    let of = shared(lineage)?;
+    Ok(Message::Info { id, of })
 }
 
-fn derive(alloc: Global, state: &TalkState, id: u64, value: &Value) -> Result<Message, Refused>
-    ensures { IsAnswer state.now id result
-        (and_then (means.meaning state.now id)
-        (means.flawless (means.derive_asked (view value.now)))) }
-{
-    let Some(of) = integer_at(value, "of") else {
-        return Err(Refused::Word(Why::Field));
-    };
-    let Some(name) = text_at(value, "name") else {
-        return Err(Refused::Word(Why::Field));
-    };
-    let Some(given) = value.get("expr") else {
-        return Err(Refused::Word(Why::Field));
-    };
-    match whole_expr(alloc, given)? {
-        Ok(expr) => derive_of(alloc, state, id, of, name, expr),
-        Err(flaw) => Err(flawed(flaw)),
-    }
-}
-
-fn derive_of(
-    alloc: Global,
-    state: &TalkState,
-    id: u64,
-    of: i128,
-    name: &str,
-    expr: Expr,
-) -> Result<Message, Refused>
-    requires { has_fit_factors expr ≡ true }
-    ensures { IsAnswer state.now id result (means.meaning state.now id (means.derive of name.now expr)) }
-{
-    match state.object(of) {
-        Some(lineage) => {
-            let made = derived(alloc, lineage, Text::of(alloc, name)?, expr)?;
-            made_in(state, id, made)
-        }
-        None => Err(Refused::Word(Why::Object)),
-    }
-}
-
-fn info(state: &TalkState, id: u64, value: &Value) -> Result<Message, Refused>
-    ensures { IsAnswer state.now id result
-        (and_then (means.meaning state.now id)
-        (means.flawless (means.info_asked (view value.now)))) }
-{
-    let Some(of) = integer_at(value, "of") else {
-        return Err(Refused::Word(Why::Field));
-    };
-    match state.object(of) {
-        Some(lineage) => Ok(Message::Info {
-            id,
-            of: shared(lineage)?,
-        }),
-        None => Err(Refused::Word(Why::Object)),
-    }
-}
-
-/// An object, shared once more.
-fn shared(lineage: &Arc<Lineage>) -> Mem<Arc<Lineage>>
+/// A lineage, shared once more.
+pub(crate) fn shared(lineage: &Arc<Lineage>) -> Mem<Arc<Lineage>>
     ensures { IfOk result (λ copy. arc_value copy ≡ arc_value lineage.now) }
 {
     Ok(Arc::try_clone(lineage)?)
 }
 
 /// A view of an object, which opens a request.
-fn look(state: &TalkState, id: u64, value: &Value) -> Result<Message, Refused>
-    requires { is_open id state.now.requests ≡ false }
-    ensures { IsAnswer state.now id result
-        (and_then (means.meaning state.now id)
-        (means.flawless (means.view_asked (view value.now)))) }
-{
-    let Some(of) = integer_at(value, "of") else {
-        return Err(Refused::Word(Why::Field));
-    };
-    match view_in(value) {
-        Ok(wanted) => look_at(state, id, of, wanted),
-        Err(flaw) => Err(flawed(flaw)),
-    }
-}
-
-fn look_at(state: &TalkState, id: u64, of: i128, wanted: ViewAsked<'_>) -> Result<Message, Refused>
-    requires { is_open id state.now.requests ≡ false }
-    ensures { IsAnswer state.now id result (means.meaning state.now id (means.view of (view_meant wanted.entry))) }
+fn look(state: &TalkState, id: u64, of: i128, wanted: &ViewAsked) -> Result<Message, Refused>
+    requires free { is_open id state.now.requests ≡ false }
+    requires limits { fits_view wanted.now ≡ true }
+    ensures { IsAnswer state.now id result (means.meaning state.now id (asked.View of wanted.now)) }
 {
     let Some(lineage) = state.object(of) else {
         return Err(Refused::Word(Why::Object));
     };
-    match planned(lineage.schema(), wanted) {
-        Ok(plan) => opened_in(state, id, shared(lineage)?, plan),
-        Err(word) => Err(Refused::Word(word)),
-    }
+    let plan = planned(lineage.schema(), wanted)?;
+    opened_in(state, id, shared(lineage)?, plan)
 }
 
 /// Opens a request while there is room for one more.
@@ -259,18 +189,7 @@ fn opened_in(
     }
 }
 
-fn cancel(state: &TalkState, id: u64, value: &Value) -> Result<Message, Refused>
-    ensures { IsAnswer state.now id result
-        (and_then (means.meaning state.now id)
-        (means.flawless (means.cancel_asked (view value.now)))) }
-{
-    match integer_at(value, "request") {
-        Some(request) => cancelled(state, id, request),
-        None => Err(Refused::Word(Why::Field)),
-    }
-}
-
-fn cancelled(state: &TalkState, id: u64, request: i128) -> Result<Message, Refused>
+fn cancel(state: &TalkState, id: u64, request: i128) -> Result<Message, Refused>
     requires { is_fit_factor request ≡ true }
     ensures { IsAnswer state.now id result (means.cancelled state.now id request) }
 {

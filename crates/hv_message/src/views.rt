@@ -1,77 +1,58 @@
 //! Views that a message asks for. What each means is said in specs/Views.antt.
 
-ghost use Rattle.std.specs.Prelude.{◌≡◌, pos, IfOk};
+ghost use Rattle.std.specs.Prelude.{◌≡◌, pos, true, IfOk};
 ghost use Rattle.serde_json.specs.View.{view};
 ghost use Rattle.hv_view.specs.Plans.{FitsPlan};
 ghost use Rattle.hv_view.specs.Stands.{FitsAny};
-ghost use Rattle.hv_message.specs.Flaws.{map_ok};
-ghost use Rattle.hv_message.specs.Meant.{view_meant};
-ghost use Rattle.hv_message.specs.Views as asked;
+ghost use Rattle.hv_message.specs.declared.asked.ViewAsked.TheVariants as asked;
+ghost use Rattle.hv_message.specs.Meant.{Tells};
+ghost use Rattle.hv_message.specs.Views as seen;
 
-use crate::fields::{integer_at, text_at};
-use crate::{Flaw, MAX_DISTINCT, Why};
+use crate::Why;
+use crate::asked::ViewAsked;
+use crate::fields::{field, name, number, word};
+use crate::refused::Refused;
 use hv_range::{Distinct, Range};
 use hv_value::Schema;
 use hv_view::{AnyView, Plan};
 use serde_json::Value;
+use std::alloc::Global;
 
-/// A view before its column is looked up.
-#[derive(Clone, Copy)]
-pub(crate) enum ViewAsked<'a> {
-    /// The range of the column with this name.
-    Range(&'a str),
-    /// The least different values of the column with this name, so many of them.
-    Distinct(&'a str, u32),
+fn range_of(alloc: Global, value: &Value) -> Result<ViewAsked, Refused>
+    ensures { Tells result (seen.range_of (view value.now)) }
+{
+    Ok(ViewAsked::Range(name(alloc, value, "col")?))
 }
 
-fn range_of(value: &Value) -> Result<ViewAsked<'_>, Flaw>
-    ensures { map_ok view_meant result ≡ asked.range_of (view value.now) }
+fn distinct_of(alloc: Global, value: &Value) -> Result<ViewAsked, Refused>
+    ensures { Tells result (seen.distinct_of (view value.now)) }
 {
-    match text_at(value, "col") {
-        Some(col) => Ok(ViewAsked::Range(col)),
-        None => Err(Flaw::Field),
-    }
+    let col = name(alloc, value, "col")?;
+    let k = number(value, "k")?;
+    Ok(ViewAsked::Distinct(col, k))
 }
 
-fn distinct_of(value: &Value) -> Result<ViewAsked<'_>, Flaw>
-    ensures { map_ok view_meant result ≡ asked.distinct_of (view value.now) }
+fn view_of(alloc: Global, value: &Value) -> Result<ViewAsked, Refused>
+    ensures { Tells result (seen.view_of (view value.now)) }
 {
-    let Some(col) = text_at(value, "col") else {
-        return Err(Flaw::Field);
-    };
-    let Some(k) = integer_at(value, "k") else {
-        return Err(Flaw::Field);
-    };
-    if 1 <= k && k <= i128::from(MAX_DISTINCT) {
-        Ok(ViewAsked::Distinct(col, k as u32))
-    } else {
-        Err(Flaw::Limit)
-    }
-}
-
-fn view_of(value: &Value) -> Result<ViewAsked<'_>, Flaw>
-    ensures { map_ok view_meant result ≡ asked.view_of (view value.now) }
-{
-    match text_at(value, "kind") {
-        Some("range") => range_of(value),
-        Some("distinct") => distinct_of(value),
-        _ => Err(Flaw::Field),
+    match word(value, "kind")? {
+        "range" => range_of(alloc, value),
+        "distinct" => distinct_of(alloc, value),
+        _ => Err(Refused::Word(Why::Field)),
     }
 }
 
 /// The view that a message asks for.
-pub(crate) fn view_in(value: &Value) -> Result<ViewAsked<'_>, Flaw>
-    ensures { map_ok view_meant result ≡ asked.view_in (view value.now) }
+pub(crate) fn view_in(alloc: Global, value: &Value) -> Result<ViewAsked, Refused>
+    ensures { Tells result (seen.view_in (view value.now)) }
 {
-    match value.get("view") {
-        Some(asked) => view_of(asked),
-        None => Err(Flaw::Field),
-    }
+    view_of(alloc, field(value, "view")?)
 }
 
 /// The plan of what is asked over columns, where its column is there.
-pub(crate) fn planned(schema: &Schema, wanted: ViewAsked<'_>) -> Result<Plan, Why>
-    ensures value { result ≡ asked.planned schema.now (view_meant wanted.entry) }
+pub(crate) fn planned(schema: &Schema, wanted: &ViewAsked) -> Result<Plan, Why>
+    requires { seen.fits_view wanted.now ≡ true }
+    ensures value { result ≡ seen.planned schema.now wanted.now }
     ensures fits { IfOk result (λ plan. FitsPlan plan schema.now) }
 {
     match viewed(schema, wanted) {
@@ -81,18 +62,19 @@ pub(crate) fn planned(schema: &Schema, wanted: ViewAsked<'_>) -> Result<Plan, Wh
 }
 
 /// The view over columns, where its column is there.
-fn viewed(schema: &Schema, wanted: ViewAsked<'_>) -> Result<AnyView, Why>
-    ensures value { result ≡ asked.viewed schema.now (view_meant wanted.entry) }
+fn viewed(schema: &Schema, wanted: &ViewAsked) -> Result<AnyView, Why>
+    requires { seen.fits_view wanted.now ≡ true }
+    ensures value { result ≡ seen.viewed schema.now wanted.now }
     ensures fits { IfOk result (λ v. FitsAny v schema.now) }
 {
     match wanted {
-        ViewAsked::Range(name) => range_over(schema, name),
-        ViewAsked::Distinct(name, k) => distinct_over(schema, name, k),
+        ViewAsked::Range(name) => range_over(schema, name.as_str()),
+        ViewAsked::Distinct(name, k) => distinct_over(schema, name.as_str(), *k as u32),
     }
 }
 
 fn range_over(schema: &Schema, name: &str) -> Result<AnyView, Why>
-    ensures value { result ≡ asked.viewed schema.now (asked.range name.now) }
+    ensures value { result ≡ seen.viewed schema.now (asked.Range name.now) }
     ensures fits { IfOk result (λ v. FitsAny v schema.now) }
 {
     match schema.find(name) {
@@ -102,7 +84,7 @@ fn range_over(schema: &Schema, name: &str) -> Result<AnyView, Why>
 }
 
 fn distinct_over(schema: &Schema, name: &str, k: u32) -> Result<AnyView, Why>
-    ensures value { result ≡ asked.viewed schema.now (asked.distinct name.now (pos k)) }
+    ensures value { result ≡ seen.viewed schema.now (asked.Distinct name.now (pos k)) }
     ensures fits { IfOk result (λ v. FitsAny v schema.now) }
 {
     match schema.find(name) {

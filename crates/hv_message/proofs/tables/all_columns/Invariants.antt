@@ -6,7 +6,7 @@ use Rattle.hv_message.proofs.tables.all_columns.Given as goal
 
 -- all are those found and then those of the rest
 abbrev pub invariant-loop-rest : goal.invariant-loop-rest
-invariant-loop-rest l = all_read table.column_of (items_view l.items) ≡ option_map (λ more. l.found.items ++ more) (all_read table.column_of (items_view l.rest))
+invariant-loop-rest l = all_read table.column_of (items_view l.items) ≡ option_map (λ more. l.found ++ more) (all_read table.column_of (items_view l.rest))
 
 abbrev pub decreases-loop-rest : goal.decreases-loop-rest
 decreases-loop-rest l = length l.rest

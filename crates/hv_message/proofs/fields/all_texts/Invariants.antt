@@ -2,11 +2,11 @@ use Rattle.std.proofs.Common.{◌≡◌, ◌++◌, length, option_map}
 use Rattle.serde_json.specs.View.{items_view}
 use Rattle.hv_message.specs.Fields.{all_read}
 use Rattle.serde_json.specs.Find.{as_str}
-use Rattle.hv_message.proofs.tables.all_texts.Given as goal
+use Rattle.hv_message.proofs.fields.all_texts.Given as goal
 
 -- all are those found and then those of the rest
 abbrev pub invariant-loop-rest : goal.invariant-loop-rest
-invariant-loop-rest l = all_read as_str (items_view l.items) ≡ option_map (λ more. l.found.items ++ more) (all_read as_str (items_view l.rest))
+invariant-loop-rest l = all_read as_str (items_view l.items) ≡ option_map (λ more. l.found ++ more) (all_read as_str (items_view l.rest))
 
 abbrev pub decreases-loop-rest : goal.decreases-loop-rest
 decreases-loop-rest l = length l.rest

@@ -1,0 +1,53 @@
+-- What a message or a term of a lineage's text puts over a lineage: what it asks for, and what it means.
+use Rattle.std.specs.Prelude.{List, Option, Some, None, Result, Ok, Err, codes}
+use Rattle.serde_json.specs.Data.{Data}
+use Rattle.hv_lineage.specs.Lineages.{TermOver, lineage_columns, filtered, projected, derived, filter_refusal, project_refusal, derive_refusal}
+use Rattle.hv_lineage.specs.declared.error.LineageErr.{LineageErr}
+use Rattle.hv_lineage.specs.declared.error.LineageErr.TheVariants as err
+use Rattle.hv_message.specs.declared.asked.TermAsked.{TermAsked}
+use Rattle.hv_message.specs.declared.asked.TermAsked.TheVariants.{Filter, Project, Derive}
+use Rattle.hv_message.specs.declared.why.Why.{Why}
+use Rattle.hv_message.specs.declared.why.Why.TheVariants as why
+use Rattle.hv_message.specs.Fields.{text_at, texts_at}
+use Rattle.hv_message.specs.Flaws.{and_then, flawless, map_ok, of_field}
+use Rattle.hv_message.specs.Trees.{under, whole_pred, whole_expr, dated_pred}
+
+-- ---- what is asked for
+
+abbrev pub filter_of : Data → Result TermAsked Why
+filter_of value = map_ok Filter (flawless (under whole_pred (codes "pred") value))
+
+abbrev pub project_of : Data → Result TermAsked Why
+project_of value = of_field (texts_at (codes "cols") value) (λ cols. Ok (Project cols))
+
+abbrev pub derive_of : Data → Result TermAsked Why
+derive_of value = of_field (text_at (codes "name") value) (λ name. map_ok (Derive name) (flawless (under whole_expr (codes "expr") value)))
+
+-- ---- what it means
+
+-- the word of a lineage's refusal; want of memory is none
+abbrev pub refusal_word : LineageErr → Why
+refusal_word err.NoColumn = why.Column
+refusal_word err.WrongKind = why.Kind
+refusal_word err.TooDeep = why.Deep
+refusal_word err.BadSchema = why.Schema
+refusal_word err.NotSameBase = why.Base
+refusal_word err.NameClash = why.Clash
+refusal_word err.SchemaDiffers = why.Differs
+refusal_word err.Deep = why.Depth
+refusal_word err.Memory = why.Full
+
+-- a lineage, unless it is refused
+abbrev pub unless_refused : Option LineageErr → TermOver → Result TermOver Why
+unless_refused None lineage = Ok lineage
+unless_refused (Some e) lineage = Err (refusal_word e)
+
+-- a lineage with what is put over it
+abbrev pub applied : TermAsked → TermOver → Result TermOver Why
+applied (Filter p) lineage = let dated = dated_pred (lineage_columns lineage) p in unless_refused (filter_refusal lineage dated) (filtered lineage dated)
+applied (Project cols) lineage = unless_refused (project_refusal lineage cols) (projected lineage cols)
+applied (Derive name expr) lineage = unless_refused (derive_refusal lineage name expr) (derived lineage name expr)
+
+-- a lineage with what is read of a value over it
+abbrev pub over : (Data → Result TermAsked Why) → Data → TermOver → Result TermOver Why
+over read value lineage = and_then (λ asked. applied asked lineage) (read value)

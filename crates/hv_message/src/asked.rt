@@ -1,0 +1,114 @@
+//! What a message asks for, before anything is looked up, and its limits. The definitions are in specs/Messages.antt,
+//! specs/Tables.antt, specs/Terms.antt and specs/Views.antt.
+
+ghost use Rattle.std.specs.Prelude.{◌≡◌};
+ghost use Rattle.std.specs.List.{list_all};
+ghost use Rattle.hv_message.specs.Messages as means;
+ghost use Rattle.hv_message.specs.Tables as table;
+ghost use Rattle.hv_message.specs.Views as seen;
+
+use crate::MAX_DISTINCT;
+use hv_expr::{Expr, Pred};
+use hv_value::{Kind, Listed, MAX_PARTITIONS, Text};
+
+/// What an operation asks for. The numbers of objects and requests are any whole numbers of 64 bits.
+#[derive(Drop)]
+pub(crate) enum Asked {
+    /// The object of a table.
+    Load(TableAsked),
+    /// A term over an object.
+    Over(i128, TermAsked),
+    /// What an object is.
+    Info(i128),
+    /// A view of an object.
+    View(i128, ViewAsked),
+    /// The end of a request.
+    Cancel(i128),
+    /// The end of the session's hearing.
+    End,
+}
+
+/// A table, before it is known whether its columns make a schema.
+#[derive(Drop)]
+pub(crate) enum TableAsked {
+    /// Columns, and the CSV text of each partition.
+    Inline(Listed<(Text, Kind)>, Listed<Text>),
+    /// Columns, and the name of a table of the catalog.
+    Named(Listed<(Text, Kind)>, Text),
+}
+
+/// What is put over a lineage, before its columns are looked up.
+#[derive(Drop)]
+pub(crate) enum TermAsked {
+    /// The rows of which a predicate holds.
+    Filter(Pred),
+    /// The columns with these names.
+    Project(Listed<Text>),
+    /// One more column, by its name, of an expression's values.
+    Derive(Text, Expr),
+}
+
+/// A view, before its columns are looked up.
+#[derive(Drop)]
+pub(crate) enum ViewAsked {
+    /// The range of the column with this name.
+    Range(Text),
+    /// The least different values of the column with this name, so many of them.
+    Distinct(Text, i128),
+}
+
+impl Asked {
+    /// Whether its numbers and lengths are within their limits.
+    pub(crate) fn fits(&self) -> bool
+        ensures { result ≡ means.fits self.now }
+    {
+        match self {
+            Asked::Load(table) => table.fits(),
+            Asked::Over(_, _) => true,
+            Asked::Info(_) => true,
+            Asked::View(_, view) => view.fits(),
+            Asked::Cancel(_) => true,
+            Asked::End => true,
+        }
+    }
+}
+
+impl TableAsked {
+    pub(crate) fn fits(&self) -> bool
+        ensures { result ≡ table.fits_table self.now }
+    {
+        match self {
+            TableAsked::Inline(_, parts) => are_parts(parts.as_slice()),
+            TableAsked::Named(_, _) => true,
+        }
+    }
+}
+
+fn are_parts(parts: &[Text]) -> bool
+    ensures { result ≡ table.are_parts parts.now }
+{
+    parts.len() <= MAX_PARTITIONS as usize && are_short_parts(parts)
+}
+
+fn are_short_parts(parts: &[Text]) -> bool
+    ensures { result ≡ list_all table.is_short_part parts.now }
+{
+    parts.iter().all(is_short_part)
+}
+
+fn is_short_part(text: &Text) -> bool
+    ensures { result ≡ table.is_short_part text.now }
+{
+    text.as_str().len() < 1 << 26
+}
+
+impl ViewAsked {
+    pub(crate) fn fits(&self) -> bool
+        ensures { result ≡ seen.fits_view self.now }
+    {
+        match self {
+            ViewAsked::Range(_) => true,
+            ViewAsked::Distinct(_, k) => 1 <= *k && *k <= i128::from(MAX_DISTINCT),
+        }
+    }
+}

@@ -1,0 +1,102 @@
+//! What is put over a lineage by a message or by a term of a lineage's text: what it asks for, and what it makes. The
+//! definitions are in specs/Terms.antt.
+
+ghost use Rattle.std.specs.Prelude.{◌≡◌, true, IfOk};
+ghost use Rattle.std.specs.Arc.{arc_value};
+ghost use Rattle.serde_json.specs.View.{view};
+ghost use Rattle.hv_expr.specs.Checks.{has_fit_factors};
+ghost use Rattle.hv_lineage.specs.Lineages.{derive_refusal, derived, filter_refusal, filtered, project_refusal, projected};
+ghost use Rattle.hv_message.specs.Meant.{HasFitFactors, IsMade, Tells};
+ghost use Rattle.hv_message.specs.Terms as term;
+
+use crate::asked::TermAsked;
+use crate::exprs::whole_expr;
+use crate::fields::{field, name, names};
+use crate::preds::{dated_pred, whole_pred};
+use crate::refused::Refused;
+use hv_expr::{Expr, Pred};
+use hv_lineage::Lineage;
+use hv_value::{Listed, Text};
+use serde_json::Value;
+use std::alloc::Global;
+use std::sync::Arc;
+
+/// The filter that a value asks for.
+pub(crate) fn filter_of(alloc: Global, value: &Value) -> Result<TermAsked, Refused>
+    ensures value { Tells result (term.filter_of (view value.now)) }
+    ensures fit { IfOk result HasFitFactors }
+{
+    let pred = whole_pred(alloc, field(value, "pred")?)??;
+    Ok(TermAsked::Filter(pred))
+}
+
+/// The choice of columns that a value asks for.
+pub(crate) fn project_of(alloc: Global, value: &Value) -> Result<TermAsked, Refused>
+    ensures value { Tells result (term.project_of (view value.now)) }
+    ensures fit { IfOk result HasFitFactors }
+{
+    Ok(TermAsked::Project(names(alloc, value, "cols")?))
+}
+
+/// The derivation of a column that a value asks for.
+pub(crate) fn derive_of(alloc: Global, value: &Value) -> Result<TermAsked, Refused>
+    ensures value { Tells result (term.derive_of (view value.now)) }
+    ensures fit { IfOk result HasFitFactors }
+{
+    let name = name(alloc, value, "name")?;
+    let expr = whole_expr(alloc, field(value, "expr")?)??;
+    Ok(TermAsked::Derive(name, expr))
+}
+
+/// The lineage with what is put over it.
+pub(crate) fn applied(
+    alloc: Global,
+    lineage: &Arc<Lineage>,
+    asked: TermAsked,
+) -> Result<Arc<Lineage>, Refused>
+    requires { HasFitFactors asked }
+    ensures { IsMade result (term.applied asked (arc_value lineage.now)) }
+{
+    match asked {
+        TermAsked::Filter(pred) => {
+            let dated = dated_pred(alloc, &pred, lineage.schema())?;
+            filtered(alloc, lineage, dated)
+        }
+        TermAsked::Project(cols) => projected(alloc, lineage, cols),
+        TermAsked::Derive(name, expr) => derived(alloc, lineage, name, expr),
+    }
+}
+
+fn filtered(alloc: Global, lineage: &Arc<Lineage>, pred: Pred) -> Result<Arc<Lineage>, Refused>
+    ensures { IsMade result
+        (term.unless_refused (filter_refusal (arc_value lineage.now) pred)
+        (filtered (arc_value lineage.now) pred)) }
+{
+    Ok(Lineage::filter(alloc, lineage, pred)?)
+}
+
+fn projected(
+    alloc: Global,
+    lineage: &Arc<Lineage>,
+    cols: Listed<Text>,
+) -> Result<Arc<Lineage>, Refused>
+    ensures { IsMade result
+        (term.unless_refused (project_refusal (arc_value lineage.now) cols)
+        (projected (arc_value lineage.now) cols)) }
+{
+    Ok(Lineage::project(alloc, lineage, cols.into_vec())?)
+}
+
+fn derived(
+    alloc: Global,
+    lineage: &Arc<Lineage>,
+    name: Text,
+    expr: Expr,
+) -> Result<Arc<Lineage>, Refused>
+    requires { has_fit_factors expr ≡ true }
+    ensures { IsMade result
+        (term.unless_refused (derive_refusal (arc_value lineage.now) name expr)
+        (derived (arc_value lineage.now) name expr)) }
+{
+    Ok(Lineage::derive(alloc, lineage, name, expr)?)
+}
