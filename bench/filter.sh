@@ -5,13 +5,14 @@
 # Has a small program count the rows of a partition of 1,000,000 rows that a filter keeps, in two ways: by hv_expr's
 # `ReadyPred` over hv_csv's table, the predicate alone; and as the program does it, by hv_made's `made_part` of a
 # lineage with the filter over a base that was read before. Checks each count against plain Python's, and prints the
-# nanoseconds a row, the best of nine passes. Targets of both: at most 10 for a whole number, 40 for an equal text.
+# nanoseconds a row, the best of nine passes. Targets of both: at most 10 for a whole number, 40 for an equal text. One
+# that contains a text costs at most 10 plain loops, a plain loop being that of plain_range.rs in the same run.
 #
 # The program is made, proved and built in a temporary folder, over copies of the crates; with a folder as its
 # argument, in that folder, which stays.
 set -u
 cd "$(dirname "$0")/.." || exit 1
-for tool in rt python3; do
+for tool in rt rustc python3; do
     command -v "$tool" > /dev/null || { echo "filter.sh: skipped, $tool isn't here"; exit 0; }
 done
 if [ $# -gt 0 ]; then
@@ -177,12 +178,13 @@ RT
 }
 
 here=$PWD
+rustc -O -o "$work/plain" bench/plain_range.rs || exit 1
 (make_program "$here") || exit 1
 
 cat > "$work/measure.py" <<'PY'
 import random, subprocess, sys
-program = sys.argv[1]
-ROWS = 1_000_000
+program, plain = sys.argv[1:]
+ROWS, LOOPS = 1_000_000, 10
 random.seed(7)
 TEXTS = ["", "AA", "DL", "Los Angeles", "Los Alamos", "los angeles", "San Diego", "New York"]
 rows = [(random.randint(0, 999_999), random.choice(TEXTS)) for _ in range(ROWS)]
@@ -197,6 +199,12 @@ WANT = {
     "contains": (lambda x, t: "Ang" in t, None),
     "folded": (lambda x, t: t.casefold() == HERE.casefold(), None),
 }
+def plain_loop():
+    output = subprocess.run([plain, str(ROWS)], stdout=subprocess.PIPE, check=True, text=True).stdout
+    return int(output.split()[1]) / ROWS
+
+loop = min(plain_loop() for _ in range(5))
+print(f"one plain loop: {loop:.2f} nanoseconds a row")
 missed = 0
 for name, (keeps, target) in WANT.items():
     want = sum(keeps(x, t) for x, t in rows)
@@ -210,7 +218,11 @@ for name, (keeps, target) in WANT.items():
         if target is not None:
             line += f"; target of {target}: " + ("met" if each <= target else "MISSED")
             missed += each > target
+        if name == "contains":
+            times = each / loop
+            line += f", {times:.1f} plain loops; target of {LOOPS}: " + ("met" if times <= LOOPS else "MISSED")
+            missed += times > LOOPS
         print(line)
 sys.exit(1 if missed else 0)
 PY
-python3 "$work/measure.py" "$work/repo/crates/rows/out/rows"
+python3 "$work/measure.py" "$work/repo/crates/rows/out/rows" "$work/plain"

@@ -20,8 +20,8 @@ use Rattle.hv_message.specs.declared.why.Why.{Why}
 use Rattle.hv_message.specs.declared.why.Why.TheVariants as why
 use Rattle.hv_value.specs.Schema.{Columns, is_schema}
 use Rattle.hv_message.specs.Messages.{Meaning, makes, tells, views, cancels, ends, Reading, means, malformed, refusal_word, Known, is_open}
-use Rattle.hv_view.specs.Stands.{FitsAny}
-use Rattle.hv_view.specs.declared.any_view.AnyView.{AnyView}
+use Rattle.hv_view.specs.Plans.{FitsPlan}
+use Rattle.hv_view.specs.declared.plan.Plan.{Plan}
 use Rattle.hv_message.specs.declared.limits.TheConstants.{MAX_OBJECTS, MAX_OPEN}
 use Rattle.hv_message.specs.declared.views.ViewAsked.{ViewAsked}
 use Rattle.hv_message.specs.declared.views.ViewAsked.TheVariants.{Range, Distinct}
@@ -39,21 +39,21 @@ view_meant (Distinct col k) = seen.distinct col.now (pos k)
 abbrev pub message_meant : Message → Meaning
 message_meant (Make id made) = makes id (arc_value made)
 message_meant (Info id of) = tells id (arc_value of)
-message_meant (View id of view) = views id (arc_value of) view
+message_meant (View id of plan) = views id (arc_value of) plan
 message_meant (Cancel id request) = cancels id request
 message_meant (End id) = ends id
 
 -- what a view that is opened keeps to: there is room for it, its id is free, and its columns are there
-pub record CanOpen (known : Known) (id : ℕ) (of : TermOver) (v : AnyView) : Type 0 where
+pub record CanOpen (known : Known) (id : ℕ) (of : TermOver) (plan : Plan) : Type 0 where
   pub room : length known.requests < MAX_OPEN
   pub free : is_open id known.requests ≡ false
-  pub fits : FitsAny v (lineage_columns of)
+  pub fits : FitsPlan plan (lineage_columns of)
 
 -- a message that a session can serve
 abbrev pub CanServe : Known → Message → Type 0
 CanServe known (Make id made) = length known.objects < MAX_OBJECTS
 CanServe known (Info id of) = Unit {0}
-CanServe known (View id of view) = CanOpen known id (arc_value of) view
+CanServe known (View id of plan) = CanOpen known id (arc_value of) plan
 CanServe known (Cancel id request) = is_open request known.requests ≡ true
 CanServe known (End id) = Unit {0}
 
@@ -61,7 +61,7 @@ CanServe known (End id) = Unit {0}
 abbrev pub id_of : Message → ℕ
 id_of (Make id made) = id
 id_of (Info id of) = id
-id_of (View id of view) = id
+id_of (View id of plan) = id
 id_of (Cancel id request) = id
 id_of (End id) = id
 

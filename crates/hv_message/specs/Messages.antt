@@ -15,7 +15,7 @@ use Rattle.hv_lineage.specs.declared.error.LineageErr.{LineageErr}
 use Rattle.hv_lineage.specs.declared.error.LineageErr.TheVariants as err
 use Rattle.hv_lineage.specs.declared.term.Term.TheVariants as term
 use Rattle.hv_lineage.specs.Lineages.{TermOver, lineage_columns, filtered, projected, derived, filter_refusal, project_refusal, derive_refusal}
-use Rattle.hv_view.specs.declared.any_view.AnyView.{AnyView}
+use Rattle.hv_view.specs.declared.plan.Plan.{Plan}
 use Rattle.hv_message.specs.declared.flaw.Flaw.{Flaw}
 use Rattle.hv_message.specs.declared.flaw.Flaw.TheVariants as flaw
 use Rattle.hv_message.specs.declared.limits.TheConstants.{MAX_ID, MAX_MESSAGE_BYTES, MAX_OBJECTS, MAX_OPEN}
@@ -25,7 +25,7 @@ use Rattle.hv_message.specs.Fields.{integer_at, text_at, texts_at}
 use Rattle.hv_message.specs.Flaws.{shaped, map_ok, and_then}
 use Rattle.hv_message.specs.Tables.{TableAsked, inline, named, table_in}
 use Rattle.hv_message.specs.Trees.{under, whole_pred, whole_expr, dated_pred}
-use Rattle.hv_message.specs.Views.{ViewAsked, view_in, viewed}
+use Rattle.hv_message.specs.Views.{ViewAsked, planned, view_in}
 
 -- what a session knows: the catalog, its objects by number, the ids of its open requests, whether it heard `end`
 pub record Known : Type 0 where
@@ -38,7 +38,7 @@ pub record Known : Type 0 where
 pub data Meaning : Type 0 where
   makes : ℕ → TermOver → Meaning
   tells : ℕ → TermOver → Meaning
-  views : ℕ → TermOver → AnyView → Meaning
+  views : ℕ → TermOver → Plan → Meaning
   cancels : ℕ → ℕ → Meaning
   ends : ℕ → Meaning
 
@@ -140,8 +140,8 @@ abbrev pub made_in : Known → ℕ → TermOver → Result Meaning Why
 made_in known id lineage = if nat_lt (length known.objects) MAX_OBJECTS then Ok (makes id lineage) else Err why.Full
 
 -- a request is opened while there is room for one more
-abbrev pub opened_in : Known → ℕ → TermOver → AnyView → Result Meaning Why
-opened_in known id lineage v = if nat_lt (length known.requests) MAX_OPEN then Ok (views id lineage v) else Err why.Full
+abbrev pub opened_in : Known → ℕ → TermOver → Plan → Result Meaning Why
+opened_in known id lineage plan = if nat_lt (length known.requests) MAX_OPEN then Ok (views id lineage plan) else Err why.Full
 
 -- the object with a number
 abbrev pub object_at : List TermOver → ℤ → Option TermOver
@@ -182,7 +182,7 @@ meaning known id (derive of name expr) = of_known (object_at known.objects of) (
     and_then (made_in known id) (unless_refused (derive_refusal lineage name expr) (derived lineage name expr)))
 meaning known id (info of) = of_known (object_at known.objects of) (λ lineage. Ok (tells id lineage))
 meaning known id (view of v) = of_known (object_at known.objects of) (λ lineage.
-    and_then (opened_in known id lineage) (viewed (lineage_columns lineage) v))
+    and_then (opened_in known id lineage) (planned (lineage_columns lineage) v))
 meaning known id (cancel request) = cancelled known id request
 meaning known id end = Ok (ends id)
 

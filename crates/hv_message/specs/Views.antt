@@ -7,11 +7,13 @@ use Rattle.hv_value.specs.Schema.{Columns, column_place}
 use Rattle.hv_sketch.specs.Columns.{kind_at}
 use Rattle.hv_view.specs.declared.any_view.AnyView.{AnyView}
 use Rattle.hv_view.specs.declared.any_view.AnyView.TheVariants as any
+use Rattle.hv_view.specs.declared.plan.Plan.{Plan}
+use Rattle.hv_view.specs.declared.plan.Plan.TheVariants.{One}
 use Rattle.hv_message.specs.declared.why.Why.{Why}
 use Rattle.hv_message.specs.declared.why.Why.TheVariants as why
 use Rattle.hv_message.specs.declared.flaw.Flaw.{Flaw}
 use Rattle.hv_message.specs.declared.flaw.Flaw.TheVariants.{Field}
-use Rattle.hv_message.specs.Flaws.{shaped, limited}
+use Rattle.hv_message.specs.Flaws.{shaped, limited, and_then}
 use Rattle.hv_message.specs.Fields.{integer_at, text_at}
 use Rattle.hv_message.specs.declared.limits.TheConstants.{MAX_DISTINCT}
 
@@ -60,3 +62,7 @@ view_at columns (Some col) make = make col
 abbrev pub viewed : Columns → ViewAsked → Result AnyView Why
 viewed columns (range name) = view_at columns (column_place name columns) (range_over columns)
 viewed columns (distinct name k) = view_at columns (column_place name columns) (λ col. Ok (any.Distinct (record { col = col; k = unsigned_abs k })))
+
+-- the plan of its value: that of the one view
+abbrev pub planned : Columns → ViewAsked → Result Plan Why
+planned columns asked = and_then (λ view. Ok (One view)) (viewed columns asked)

@@ -2,7 +2,7 @@
 
 use crate::Why;
 use hv_lineage::Lineage;
-use hv_view::AnyView;
+use hv_view::Plan;
 use std::sync::Arc;
 
 /// What a message asks for, its checks being passed.
@@ -22,7 +22,7 @@ pub enum Message {
     View {
         id: u64,
         of: Arc<Lineage>,
-        view: AnyView,
+        plan: Plan,
     },
     /// The end of an open request.
     Cancel {

@@ -3,7 +3,7 @@
 
 ghost use Rattle.std.specs.Prelude.{◌≡◌, true, false, IfOk};
 ghost use Rattle.hv_lineage.specs.Lineages.{lineage_columns};
-ghost use Rattle.hv_view.specs.Stands.{FitsAny};
+ghost use Rattle.hv_view.specs.Plans.{FitsPlan};
 ghost use Rattle.hv_message.specs.Messages.{is_open};
 ghost use Rattle.std.specs.Arc.{arc_value};
 ghost use Rattle.serde_json.specs.View.{view};
@@ -20,12 +20,12 @@ use crate::made::{derived, filtered, loaded, projected};
 use crate::preds::{dated_pred, whole_pred};
 use crate::refused::{Refused, flawed};
 use crate::tables::{table_in, texts_at};
-use crate::views::{ViewAsked, view_in, viewed};
+use crate::views::{ViewAsked, planned, view_in};
 use crate::{Message, TalkState, Why};
 use hv_expr::{Expr, Pred};
 use hv_lineage::Lineage;
 use hv_value::{Mem, Text};
-use hv_view::AnyView;
+use hv_view::Plan;
 use serde_json::Value;
 use std::alloc::Global;
 use std::sync::Arc;
@@ -235,8 +235,8 @@ fn look_at(state: &TalkState, id: u64, of: i128, wanted: ViewAsked<'_>) -> Resul
     let Some(lineage) = state.object(of) else {
         return Err(Refused::Word(Why::Object));
     };
-    match viewed(lineage.schema(), wanted) {
-        Ok(view) => opened_in(state, id, shared(lineage)?, view),
+    match planned(lineage.schema(), wanted) {
+        Ok(plan) => opened_in(state, id, shared(lineage)?, plan),
         Err(word) => Err(Refused::Word(word)),
     }
 }
@@ -246,14 +246,14 @@ fn opened_in(
     state: &TalkState,
     id: u64,
     of: Arc<Lineage>,
-    view: AnyView,
+    plan: Plan,
 ) -> Result<Message, Refused>
     requires free { is_open id state.now.requests ≡ false }
-    requires fits { FitsAny view (lineage_columns (arc_value of)) }
-    ensures { IsAnswer state.now id result (means.opened_in state.now id (arc_value of) view) }
+    requires fits { FitsPlan plan (lineage_columns (arc_value of)) }
+    ensures { IsAnswer state.now id result (means.opened_in state.now id (arc_value of) plan) }
 {
     if state.can_open() {
-        Ok(Message::View { id, of, view })
+        Ok(Message::View { id, of, plan })
     } else {
         Err(Refused::Word(Why::Full))
     }

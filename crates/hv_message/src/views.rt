@@ -2,6 +2,7 @@
 
 ghost use Rattle.std.specs.Prelude.{◌≡◌, pos, IfOk};
 ghost use Rattle.serde_json.specs.View.{view};
+ghost use Rattle.hv_view.specs.Plans.{FitsPlan};
 ghost use Rattle.hv_view.specs.Stands.{FitsAny};
 ghost use Rattle.hv_message.specs.Flaws.{map_ok};
 ghost use Rattle.hv_message.specs.Meant.{view_meant};
@@ -11,7 +12,7 @@ use crate::fields::{integer_at, text_at};
 use crate::{Flaw, MAX_DISTINCT, Why};
 use hv_range::{Distinct, Range};
 use hv_value::Schema;
-use hv_view::AnyView;
+use hv_view::{AnyView, Plan};
 use serde_json::Value;
 
 /// A view before its column is looked up.
@@ -68,8 +69,19 @@ pub(crate) fn view_in(value: &Value) -> Result<ViewAsked<'_>, Flaw>
     }
 }
 
+/// The plan of what is asked over columns, where its column is there.
+pub(crate) fn planned(schema: &Schema, wanted: ViewAsked<'_>) -> Result<Plan, Why>
+    ensures value { result ≡ asked.planned schema.now (view_meant wanted.entry) }
+    ensures fits { IfOk result (λ plan. FitsPlan plan schema.now) }
+{
+    match viewed(schema, wanted) {
+        Ok(view) => Ok(Plan::One(view)),
+        Err(word) => Err(word),
+    }
+}
+
 /// The view over columns, where its column is there.
-pub(crate) fn viewed(schema: &Schema, wanted: ViewAsked<'_>) -> Result<AnyView, Why>
+fn viewed(schema: &Schema, wanted: ViewAsked<'_>) -> Result<AnyView, Why>
     ensures value { result ≡ asked.viewed schema.now (view_meant wanted.entry) }
     ensures fits { IfOk result (λ v. FitsAny v schema.now) }
 {

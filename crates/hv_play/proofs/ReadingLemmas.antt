@@ -15,7 +15,7 @@ use Rattle.hv_message.specs.Views.{viewed}
 abbrev pub IsOpenedOrEnded : Known → Meaning → Type 0
 IsOpenedOrEnded k (makes id lineage) = Unit {0}
 IsOpenedOrEnded k (tells id lineage) = Unit {0}
-IsOpenedOrEnded k (views id lineage v) = is_open id k.requests ≡ false
+IsOpenedOrEnded k (views id lineage plan) = is_open id k.requests ≡ false
 IsOpenedOrEnded k (cancels id request) = is_open request k.requests ≡ true
 IsOpenedOrEnded k (ends id) = Unit {0}
 
@@ -59,7 +59,7 @@ meaning_sound k id (project of cols) free = of_each k (object_at k.objects of) _
 meaning_sound k id (derive of name expr) free = of_each k (object_at k.objects of) _ (λ lineage. then_each k (made_in k id) _ (made_sound k id))
 meaning_sound k id (info of) free = of_each k (object_at k.objects of) _ (λ lineage. tt)
 meaning_sound k id (view of v) free =
-    of_each k (object_at k.objects of) _ (λ lineage. then_each k (opened_in k id lineage) _ (λ shown. either_result k _ (Ok (views id lineage shown)) (Err why.Full) free tt))
+    of_each k (object_at k.objects of) _ (λ lineage. then_each k (opened_in k id lineage) _ (λ plan. either_result k _ (Ok (views id lineage plan)) (Err why.Full) free tt))
 meaning_sound k id (cancel (pos request)) free = cancelled_sound k id request (is_open request k.requests) refl
 meaning_sound k id (cancel (negsuc request)) free = tt
 meaning_sound k id end free = tt

@@ -5,12 +5,20 @@ use Rattle.hv_lineage.specs.Lineages.{TermOver}
 use Rattle.hv_message.specs.Messages.{Reading, reading}
 use Rattle.hv_reply.specs.declared.reply.Reply.{Reply}
 use Rattle.hv_session.specs.declared.request.OpenRequest.{OpenRequest}
-use Rattle.hv_session.specs.Talk.{Talk, Due, new_talk, known, served, after_reading, due_reply, after_due, request_with, IsFinal, closed}
+use Rattle.hv_session.specs.Talk.{Talk, Due, new_talk, Manner, known, served, after_reading, due_reply, after_due, request_with, IsFinal, IsHearing, closed}
 use Rattle.hv_play.specs.declared.entry.BadLine.{BadLine}
-use Rattle.hv_play.specs.Run.{Duty, script, drain, refusing, hearing, saying, ticking, treating, Event, comes, written, Runs, stays, does, Treats, out, SaysOwed, bad_entry, entries_of, duties_of, treatings, round, is_anything_open, no_tables, sixteen_sessions, whole, early, IsTrace}
+use Rattle.hv_play.specs.Run.{Duty, script, drain, refusing, hearing, saying, ticking, treating, Event, comes, written, Runs, stays, does, Treats, out, SaysOwed, bad_entry, entries_of, duties_of, treatings, round, is_anything_open, Setting, whole, early, IsTrace}
 use Rattle.hv_play.specs.Script.{Line, line_of, script_lines}
 use Rattle.hv_play.specs.Steps.{at}
 use Rattle.hv_play.specs.Texts.{entries_text}
+
+-- there is no named table, nothing is told of any, and all words are 0
+abbrev pub no_tables : Manner
+no_tables = record { tables = []; told = λ table part. None; words = λ place. 0 }
+
+-- the sessions of a script
+abbrev pub sixteen_sessions : Setting
+sixteen_sessions = record { sessions = 16; manner = λ s. no_tables }
 
 -- the sessions go from these talks through these duties to the last talks, and nothing is left to be done
 abbrev pub Goes : List Talk → List Duty → List Event → List Talk → Type 0
@@ -18,7 +26,7 @@ Goes talks todo events last = Runs sixteen_sessions (at talks) todo events (at l
 
 -- a session by its parts
 abbrev pub session : List TermOver → List OpenRequest → List Due → Talk
-session objects requests due = record { objects = objects; requests = requests; due = due; ended = false }
+session objects requests due = record { objects = objects; requests = requests; due = due; ended = false; drawn = 0; passed = 0 }
 
 -- the talk of a session
 abbrev pub of : List Talk → ℕ → Talk
@@ -50,14 +58,14 @@ a_bad_line {talks} {last} {events} {todo} k why run =
 
 -- a text is heard, and memory suffices
 pub a_text : {talks last : List Talk} {events : List Event} {todo : List Duty} (k s : ℕ) (text : List ℕ) (read : Reading)
-    → (of talks s).due ≡ [] → reading (known [] (of talks s)) text ≡ read
+    → (of talks s).due ≡ [] → IsHearing (of talks s) text (served 0) → reading (known [] (of talks s)) text ≡ read
     → Goes (slice_set talks s (after_reading (of talks s) read)) (saying k s ∷ todo) events last
     → Goes talks (hearing k s text ∷ todo) (comes s text ∷ events) last
-a_text {talks} {last} {events} {todo} k s text read owes e run =
+a_text {talks} {last} {events} {todo} k s text read owes fresh e run =
     let next = after_reading (of talks s) read in
     does (at talks) (at (slice_set talks s next)) (at last) (hearing k s text) (saying k s ∷ []) todo [] (Some (comes s text)) events (
       next,
-      record { nothing_due = owes; how = served; is_hearing = tt; next_is = ap (after_reading (of talks s)) (sym e) },
+      record { nothing_due = owes; how = served 0; is_hearing = fresh; next_is = ap (after_reading (of talks s)) (sym e) },
       record { shows = refl; leaves = refl; brings = refl },
     ) run
 

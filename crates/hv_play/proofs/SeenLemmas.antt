@@ -133,11 +133,11 @@ step_says g k state next (drain j) event more same did =
     says_did k None event state next (drain_duties g j state) more tt (all_drain g k j (is_anything_open state) same) did
 step_says g k state next (refusing j why) event more same did = says_did k _ event state next [] more same tt did
 step_says g k state next (hearing j s text) event more same step = absurd same
-step_says g k state next (saying j s) event more same did = owed_says g.manner k j s state next (talk_of state s).due event more same did
+step_says g k state next (saying j s) event more same did = owed_says (g.manner s) k j s state next (talk_of state s).due event more same did
 step_says g k state next (ticking j s) event more same did =
     says_did k None event state next (treatings j s (talk_of state s).requests) more tt (all_treatings k j s (talk_of state s).requests same) did
 step_says g k state next (treating j s id) event more same did =
-    treated_says g.manner.told k j s state next (request_with id (talk_of state s)) event more same did
+    treated_says (g.manner s).told k j s state next (request_with id (talk_of state s)) event more same did
 
 -- the output lines have this number, and what is spoken is what they say, after these words
 record AreSaidAt (s k : ℕ) (words : List Spoken) (events : List Event) : Type 0 where
@@ -298,4 +298,4 @@ talks_seen g script_bytes output s right =
 
 pub seen_right : AreSeenTalksRight
 seen_right g script_bytes output s right less =
-    subst (λ words. Talks g.manner new_talk words (talk_of right.last s)) (talks_seen g script_bytes output s right) (talks_right g whole script_bytes output s right less)
+    subst (λ words. Talks (g.manner s) new_talk words (talk_of right.last s)) (talks_seen g script_bytes output s right) (talks_right g whole script_bytes output s right less)

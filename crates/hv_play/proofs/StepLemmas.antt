@@ -19,14 +19,14 @@ use Rattle.hv_member.specs.Sets.{numbers}
 use Rattle.hv_session.specs.Held.{AnswersFirst}
 use Rattle.hv_session.specs.Talk.{Talk, new_talk, Due, Pays, Replies, after_due, due_reply, Hears, Says, Closes, closed, Manner}
 use Rattle.hv_play.specs.Texts.{entries_text}
-use Rattle.hv_play.specs.Run.{State, Duty, script, drain, refusing, hearing, saying, ticking, treating, Event, comes, written, Does, SaysOwed, Treats, Runs, stays, does, entries_of, out, bad_entry, duties_of, treatings, is_waiting, is_anything_open, Setting, talk_of, with_talk, round, start, whole, early}
+use Rattle.hv_play.specs.Run.{State, Duty, script, drain, refusing, hearing, saying, ticking, treating, Event, comes, written, Does, SaysOwed, Treats, Runs, stays, does, entries_of, out, bad_entry, duties_of, treatings, is_waiting, is_anything_open, Setting, Suits, talk_of, with_talk, round, start, whole, early}
 use Rattle.serde_json.specs.Data.{Data}
 use Rattle.hv_play.specs.declared.entry.BadLine.TheVariants as bad_line
 use Rattle.hv_play.specs.Script.{bad, line_of, line_of_value, session_in, text_in_line, why_bad, value_of_line, script_lines}
 use Rattle.hv_play.proofs.LineLemmas.{line_of-empty, line_of-value, line_of_value-heard, script_lines-nil}
 use Rattle.hv_lineage.specs.Flat.{Told}
 use Rattle.hv_session.proofs.FirstLemmas.{closed-first, with-first}
-use Rattle.hv_play.specs.Steps.{at, Suits, Shows, OneCloses, DoneSoFar, CutShort, Wrote}
+use Rattle.hv_play.specs.Steps.{at, Shows, OneCloses, DoneSoFar, CutShort, Wrote}
 use Rattle.hv_play.proofs.RunLemmas.{runs_on, before, one, entries_of-append, entries_text-append}
 
 -- ---- a line
@@ -75,7 +75,7 @@ pays_shows g k s state next [] within (none, is) =
     record {
       events = [];
       runs = subst (λ end. Runs g state (saying k s ∷ []) [] end []) same
-          (one g state state (saying k s) [] None (says_nothing g.manner state k s (talk_of state s).due none));
+          (one g state state (saying k s) [] None (says_nothing (g.manner s) state k s (talk_of state s).due none));
       shown = refl;
     }
 pays_shows g k s state next (reply ∷ replies) within (due, later, first, is, rest) =
@@ -86,13 +86,13 @@ pays_shows g k s state next (reply ∷ replies) within (due, later, first, is, r
     record {
       events = written (out k s (due_reply talk due)) ∷ more.events;
       runs = does state mid (with_talk state s next) (saying k s) (saying k s ∷ []) [] [] (Some (written (out k s (due_reply talk due)))) more.events
-          (says_first g.manner state k s talk.due later due first)
+          (says_first (g.manner s) state k s talk.due later due first)
           (subst (λ end. Runs g mid (saying k s ∷ []) more.events end []) (twice state s (after_due talk due) next) more.runs);
       shown = ap (λ r. out k s r ∷ entries_of more.events) (sym is) ∙ ap (λ entries. out k s reply ∷ entries) more.shown;
     }
 
 -- a session hears a text and says what that makes due
-pub shows_replies : (g : Setting) (k s : ℕ) (state : State) (next : Talk) (text : List ℕ) (replies : List Reply) → g.manner.tables ≡ [] → s < length state.talks
+pub shows_replies : (g : Setting) (k s : ℕ) (state : State) (next : Talk) (text : List ℕ) (replies : List Reply) → (g.manner s).tables ≡ [] → s < length state.talks
     → Replies [] (talk_of state s) text replies next → Shows g (hearing k s text ∷ []) state (map (out k s) replies) (with_talk state s next)
 shows_replies g k s state next text replies none within r =
     let mid = with_talk state s r.owing in
@@ -111,7 +111,7 @@ pub value_bad : (g : Setting) (k : ℕ) (value : Data) (state : State) → line_
 value_bad g k value state e =
     subst (λ l. Shows g (duties_of k l) state (bad_entry k (why_bad value) ∷ []) state) (sym e) (shows_bad g k (why_bad value) state)
 
-pub value_heard : (g : Setting) (k s : ℕ) (value : Data) (text : List ℕ) (state : State) (d next : Talk) (replies : List Reply) → g.manner.tables ≡ [] → s < length state.talks
+pub value_heard : (g : Setting) (k s : ℕ) (value : Data) (text : List ℕ) (state : State) (d next : Talk) (replies : List Reply) → (g.manner s).tables ≡ [] → s < length state.talks
     → session_in value ≡ Some s → text_in_line value ≡ Some text → Replies [] (get_or state.talks s d) text replies next
     → Shows g (duties_of k (line_of_value (Some value))) state (map (out k s) replies) (with_talk state s next)
 value_heard g k s value text state d next replies none within is says said =
@@ -278,11 +278,11 @@ answer_step : (g : Setting) (k s : ℕ) (state : State) (next : Talk) (reply : R
     → Does g state (treating k s a.request.id) (Some (written (out k s reply))) (with_talk state s next) []
 answer_step g k s state next reply a =
     let talk = talk_of state s in
-    subst (λ found. Treats g.manner.told state k s found (Some (written (out k s reply))) (with_talk state s next) [])
+    subst (λ found. Treats (g.manner s).told state k s found (Some (written (out k s reply))) (with_talk state s next) [])
     (sym (with-first talk a.request a.later a.first)) (
       reply,
       next,
-      closes_first g.manner.told talk next reply a,
+      closes_first (g.manner s).told talk next reply a,
       record { shows = refl; leaves = refl; brings = refl },
     )
 

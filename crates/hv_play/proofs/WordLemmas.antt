@@ -138,20 +138,20 @@ found_there id request (first ∷ requests) found = by_id (first.id == id) refl 
 abbrev EndsNone : List Due → Type 0
 EndsNone [] = Unit {0}
 EndsNone (answers r ∷ later) = EndsNone later
-EndsNone (making id lineage ∷ later) = EndsNone later
+EndsNone (making id lineage seed ∷ later) = EndsNone later
 EndsNone (ending id ∷ later) = ⊥
 
 -- a request whose end is owed is open, and it is the only one
 abbrev IsOwed : List Due → List OpenRequest → Type 0
 IsOwed [] requests = Unit {0}
 IsOwed (answers r ∷ later) requests = EndsNone later
-IsOwed (making id lineage ∷ later) requests = EndsNone later
+IsOwed (making id lineage seed ∷ later) requests = EndsNone later
 IsOwed (ending id ∷ later) requests = (list_any (has_id id) requests ≡ true) × EndsNone later
 
 none_owed : (dues : List Due) (requests : List OpenRequest) → EndsNone dues → IsOwed dues requests
 none_owed [] requests none = tt
 none_owed (answers r ∷ later) requests none = none
-none_owed (making id lineage ∷ later) requests none = none
+none_owed (making id lineage seed ∷ later) requests none = none
 none_owed (ending id ∷ later) requests none = absurd none
 
 record IsKept (talk : Talk) : Type 0 where
@@ -222,20 +222,20 @@ one_less talk next id there same owed kept =
 
 -- ---- a text is heard
 
-after_goes : (tables : Tables) (talk : Talk) (read : Reading) → IsSound (known tables talk) read → talk.due ≡ [] → IsKept talk
-    → Goes (opened_by read served) None talk (after_reading talk read)
-after_goes tables talk (malformed why id) sound none kept = goes_on talk _ refl tt kept
-after_goes tables talk (means (makes id lineage)) sound none kept = goes_on talk _ refl tt kept
-after_goes tables talk (means (tells id lineage)) sound none kept = goes_on talk _ refl tt kept
-after_goes tables talk (means (views id lineage v)) sound none kept =
-    one_more talk (record { id = id; of = lineage; view = v }) (sym (any_of_ids id talk.requests) ∙ sound) none kept
-after_goes tables talk (means (cancels id request)) sound none kept = goes_on talk _ refl (sym (any_of_ids request talk.requests) ∙ sound, tt) kept
-after_goes tables talk (means (ends id)) sound none kept = goes_on talk _ refl (subst (λ dues. IsOwed dues talk.requests) (sym none) tt) kept
+after_goes : (tables : Tables) (talk : Talk) (read : Reading) (place : ℕ) → IsSound (known tables talk) read → talk.due ≡ [] → IsKept talk
+    → Goes (opened_by read (served place)) None talk (after_reading talk read)
+after_goes tables talk (malformed why id) place sound none kept = goes_on talk _ refl tt kept
+after_goes tables talk (means (makes id lineage)) place sound none kept = goes_on talk _ refl tt kept
+after_goes tables talk (means (tells id lineage)) place sound none kept = goes_on talk _ refl tt kept
+after_goes tables talk (means (views id lineage plan)) place sound none kept =
+    one_more talk (record { id = id; of = lineage; plan = plan }) (sym (any_of_ids id talk.requests) ∙ sound) none kept
+after_goes tables talk (means (cancels id request)) place sound none kept = goes_on talk _ refl (sym (any_of_ids request talk.requests) ∙ sound, tt) kept
+after_goes tables talk (means (ends id)) place sound none kept = goes_on talk _ refl (subst (λ dues. IsOwed dues talk.requests) (sym none) tt) kept
 
 heard_goes : (tables : Tables) (talk : Talk) (text : List ℕ) (how : Hearing) → talk.due ≡ [] → IsKept talk
     → Goes (opened_by (reading (known tables talk) text) how) None talk (heard tables talk text how)
-heard_goes tables talk text served none kept =
-    after_goes tables talk (reading (known tables talk) text) (reading_sound (known tables talk) text) none kept
+heard_goes tables talk text (served place) none kept =
+    after_goes tables talk (reading (known tables talk) text) place (reading_sound (known tables talk) text) none kept
 heard_goes tables talk text (refused id) none kept = goes_on talk _ refl tt kept
 
 hears_goes : (tables : Tables) (talk next : Talk) (text : List ℕ) (h : Hears tables talk text next) → IsKept talk
@@ -301,7 +301,7 @@ one_last_word m id words last talks =
 
 pub each_last_word : HasEachLastWord
 each_last_word g script_bytes output s id right words talks =
-    let all = balances g.manner id new_talk words (talk_of right.last s) talks new_kept in
+    let all = balances (g.manner s) id new_talk words (talk_of right.last s) talks new_kept in
     let counted = all.count in
     let none : open_with id (talk_of right.last s) ≡ 0 = ap (count_of id) (nothing_open g script_bytes output s right) in
     omega (arith, counted, none)

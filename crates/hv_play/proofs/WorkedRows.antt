@@ -22,8 +22,9 @@ use Rattle.hv_value.specs.Rows.{Row, base_rows}
 use Rattle.hv_value.specs.Schema.{Columns}
 use Rattle.hv_value.specs.Order.{compare_cells}
 use Rattle.hv_range.specs.Range.{range_of}
-use Rattle.hv_view.specs.declared.any_view.AnyView.{AnyView}
 use Rattle.hv_view.specs.declared.any_view.AnyView.TheVariants as view
+use Rattle.hv_view.specs.declared.plan.Plan.{Plan}
+use Rattle.hv_view.specs.declared.plan.Plan.TheVariants.{One}
 use Rattle.hv_view.specs.declared.shown.Shown.{Shown}
 use Rattle.hv_view.specs.declared.shown.Shown.TheVariants as shown
 use Rattle.hv_view.specs.View.{range_shown}
@@ -39,7 +40,7 @@ use Rattle.hv_message.specs.declared.why.Why.TheVariants as why
 use Rattle.hv_message.specs.Flaws.{and_then}
 use Rattle.hv_message.specs.Messages.{Known, Reading, makes, views, cancels, means, malformed, opened_in, reading, reading_of, reading_of_value}
 use Rattle.hv_message.specs.Views as asked
-use Rattle.hv_message.specs.Views.{ViewAsked, viewed}
+use Rattle.hv_message.specs.Views.{ViewAsked, planned}
 use Rattle.hv_reply.specs.declared.reply.Reply.{Reply}
 use Rattle.hv_reply.specs.declared.reply.Reply.TheVariants.{Made as Makes, Final, Cancelled, Done, Malformed}
 use Rattle.hv_reply.specs.Values.{shown_data, whole as whole_number}
@@ -47,11 +48,11 @@ use Rattle.hv_session.specs.declared.request.OpenRequest.{OpenRequest}
 use Rattle.hv_session.specs.Talk.{Talk, IsFinal, answers, ending, known, making, new_talk}
 use Rattle.hv_play.specs.declared.entry.BadLine.TheVariants as bad_line
 use Rattle.hv_play.specs.declared.entry.Entry.{Entry}
-use Rattle.hv_play.specs.Run.{script, drain, Event, comes, written, out, bad_entry, no_tables, sixteen_sessions, whole, early, IsTrace}
+use Rattle.hv_play.specs.Run.{script, drain, Event, comes, written, out, bad_entry, whole, early, IsTrace}
 use Rattle.hv_play.specs.Script.{line_of, empty, hears, bad, script_lines}
 use Rattle.hv_play.specs.Steps.{at}
 use Rattle.hv_play.specs.Texts.{entry_text, entries_text}
-use Rattle.hv_play.proofs.RowSteps.{a_line, no_line, a_bad_line, a_text, what_is_owed, nothing_owed, a_round, a_tick, idle_ticks, no_round, an_answer, row, begun, Goes, session, new_talks}
+use Rattle.hv_play.proofs.RowSteps.{a_line, no_line, a_bad_line, a_text, what_is_owed, nothing_owed, a_round, a_tick, idle_ticks, no_round, an_answer, row, begun, Goes, no_tables, session, sixteen_sessions, new_talks}
 
 -- ---- what lines ask for
 
@@ -118,11 +119,11 @@ columns = (codes "x", kind.Int) ∷ []
 abbrev table : TermOver
 table = record { base = base.Inline columns (codes "x,y\n5,a\n,b\n-2,c" ∷ codes "x,y\n9,d" ∷ []); term = term.Base }
 
-abbrev range_view : AnyView
-range_view = view.Range (record { col = 0; kind = kind.Int })
+abbrev range_plan : Plan
+range_plan = One (view.Range (record { col = 0; kind = kind.Int }))
 
 abbrev request : OpenRequest
-request = record { id = 2; of = table; view = range_view }
+request = record { id = 2; of = table; plan = range_plan }
 
 -- the columns of a table as it was loaded
 table_columns : (columns : Columns) (parts : List (List ℕ)) → lineage_columns (record { base = base.Inline columns parts; term = term.Base }) ≡ columns
@@ -130,13 +131,13 @@ table_columns columns parts = ap (λ (m : Made). m.columns) (made-Base columns)
 
 -- what a view of an object means where the object's columns are these
 abbrev viewed_by : Known → ℕ → TermOver → ViewAsked → Columns → Reading
-viewed_by k id lineage v columns = reading_of id (and_then (opened_in k id lineage) (viewed columns v))
+viewed_by k id lineage v columns = reading_of id (and_then (opened_in k id lineage) (planned columns v))
 
 load_means : reading (known [] new_talk) load_text ≡ means (makes 1 table)
 unfolding serde_json_on_literals reading reading_of_value
 load_means = refl
 
-view_means : reading (known [] (session (table ∷ []) [] [])) view_text ≡ means (views 2 table range_view)
+view_means : reading (known [] (session (table ∷ []) [] [])) view_text ≡ means (views 2 table range_plan)
 unfolding serde_json_on_literals reading reading_of_value
 view_means = ap (viewed_by (known [] (session (table ∷ []) [] [])) 2 table (asked.range (codes "x"))) (table_columns columns (codes "x,y\n5,a\n,b\n-2,c" ∷ codes "x,y\n9,d" ∷ []))
 
@@ -214,11 +215,11 @@ loads_and_views : {events : List Event} {last : List Talk} (lines : List (List �
     → Goes new_talks (script 1 (load_line ∷ view_line ∷ lines) ∷ []) (comes 0 load_text ∷ written made ∷ comes 0 view_text ∷ events) last
 loads_and_views lines run =
     a_line 1 load_line (view_line ∷ lines) (hears 0 load_text) load_asks (
-    a_text 1 0 load_text (means (makes 1 table)) refl load_means (
-    what_is_owed 1 0 (making 1 table) [] refl (
+    a_text 1 0 load_text (means (makes 1 table)) refl (omega arith, omega arith) load_means (
+    what_is_owed 1 0 (making 1 table None) [] refl (
     nothing_owed 1 0 refl (
     a_line 2 view_line lines (hears 0 view_text) view_asks (
-    a_text 2 0 view_text (means (views 2 table range_view)) refl view_means (
+    a_text 2 0 view_text (means (views 2 table range_plan)) refl (omega arith, omega arith) view_means (
     nothing_owed 2 0 refl run))))))
 
 abbrev other_sessions : List ℕ
@@ -277,7 +278,7 @@ pub a_view_of_no_object : IsTrace sixteen_sessions whole view_script view_output
 a_view_of_no_object =
     row view_script view_output (view_line ∷ []) view_lines (
     a_line 1 view_line [] (hears 0 view_text) view_asks (
-    a_text 1 0 view_text (malformed why.Object (Some 2)) refl view_of_none (
+    a_text 1 0 view_text (malformed why.Object (Some 2)) refl (omega arith, omega arith) view_of_none (
     what_is_owed 1 0 (answers (Malformed (Some 2) why.Object)) [] refl (
     nothing_owed 1 0 refl (
     no_line 2 (no_round 2 refl)))))) view_out
@@ -345,7 +346,7 @@ a_cancelled_view =
     row cancel_script cancel_output (load_line ∷ view_line ∷ cancel_line ∷ []) cancel_lines (
     loads_and_views (cancel_line ∷ []) (
     a_line 3 cancel_line [] (hears 0 cancel_text) cancel_asks (
-    a_text 3 0 cancel_text (means (cancels 4 2)) refl cancel_means (
+    a_text 3 0 cancel_text (means (cancels 4 2)) refl (omega arith, omega arith) cancel_means (
     what_is_owed 3 0 (ending 2) (answers (Done 4) ∷ []) refl (
     what_is_owed 3 0 (answers (Done 4)) [] refl (
     nothing_owed 3 0 refl (

@@ -38,12 +38,12 @@ spoken s events = flat_map (spoken_at s) events
 -- a run leads the talk of each session from what it was, through what is spoken there, to what it is
 abbrev pub LeadsTalks : Type 0
 LeadsTalks = (g : Setting) (state last : State) (todo left : List Duty) (events : List Event) (s : ℕ)
-    → Runs g state todo events last left → s < length state.talks → Talks g.manner (talk_of state s) (spoken s events) (talk_of last s)
+    → Runs g state todo events last left → s < length state.talks → Talks (g.manner s) (talk_of state s) (spoken s events) (talk_of last s)
 
 -- in a right output each session's talk is right from its start
 abbrev pub HasRightTalks : Type 0
 HasRightTalks = (g : Setting) (ending : Ending) (script_bytes output : List ℕ) (s : ℕ) (right : IsTrace g ending script_bytes output)
-    → s < g.sessions → Talks g.manner new_talk (spoken s right.events) (talk_of right.last s)
+    → s < g.sessions → Talks (g.manner s) new_talk (spoken s right.events) (talk_of right.last s)
 
 -- ---- what a reader of script and output sees
 
@@ -71,7 +71,7 @@ AreTalksSeen = (g : Setting) (script_bytes output : List ℕ) (s : ℕ) (right :
 -- and that talk is right from its start
 abbrev pub AreSeenTalksRight : Type 0
 AreSeenTalksRight = (g : Setting) (script_bytes output : List ℕ) (s : ℕ) (right : IsTrace g whole script_bytes output) → s < g.sessions
-    → Talks g.manner new_talk (seen_talk s 1 (script_lines script_bytes) (entries_of right.events)) (talk_of right.last s)
+    → Talks (g.manner s) new_talk (seen_talk s 1 (script_lines script_bytes) (entries_of right.events)) (talk_of right.last s)
 
 -- ---- what is left open
 
@@ -85,12 +85,12 @@ LeavesNothingOpen = (g : Setting) (script_bytes output : List ℕ) (s : ℕ) (ri
 -- the id of the request that a text opens: a message that asks for a view, where it was served
 abbrev pub opened_by : Reading → Hearing → Option ℕ
 opened_by read (refused id) = None
-opened_by (malformed why id) served = None
-opened_by (means (makes id lineage)) served = None
-opened_by (means (tells id lineage)) served = None
-opened_by (means (views id lineage view)) served = Some id
-opened_by (means (cancels id request)) served = None
-opened_by (means (ends id)) served = None
+opened_by (malformed why id) (served place) = None
+opened_by (means (makes id lineage)) (served place) = None
+opened_by (means (tells id lineage)) (served place) = None
+opened_by (means (views id lineage view)) (served place) = Some id
+opened_by (means (cancels id request)) (served place) = None
+opened_by (means (ends id)) (served place) = None
 
 -- the id of the request whose last word a reply is where nothing is owed
 abbrev pub word_of : Reply → Option ℕ
@@ -140,5 +140,5 @@ HasOneLastWord = (m : Manner) (id : ℕ) (words : List Spoken) (last : Talk) (ta
 -- in a whole right output each request has its last word
 abbrev pub HasEachLastWord : Type 0
 HasEachLastWord = (g : Setting) (script_bytes output : List ℕ) (s id : ℕ) (right : IsTrace g whole script_bytes output)
-    → (words : List Spoken) (talks : Talks g.manner new_talk words (talk_of right.last s))
-    → openings g.manner id new_talk words (talk_of right.last s) talks ≡ last_words g.manner id new_talk words (talk_of right.last s) talks
+    → (words : List Spoken) (talks : Talks (g.manner s) new_talk words (talk_of right.last s))
+    → openings (g.manner s) id new_talk words (talk_of right.last s) talks ≡ last_words (g.manner s) id new_talk words (talk_of right.last s) talks

@@ -4,7 +4,7 @@ use Rattle.std.specs.declared.alloc.Global.{Global}
 use Rattle.std.specs.Io.KnownBytes.{Appends, Consumes, IsAtEnd}
 use Rattle.hv_outer.specs.declared.io_err.IoErr.{IoErr}
 use Rattle.hv_outer.specs.declared.io_err.IoErr.TheVariants.{Failed, Memory}
-use Rattle.hv_play.specs.Run.{Ending, IsTrace, sixteen_sessions}
+use Rattle.hv_play.specs.Run.{Setting, Ending, IsTrace}
 
 -- whether the words are just `play`
 abbrev pub is_play : List (String Global) → Bool
@@ -18,12 +18,12 @@ status_after (Ok _) = 0
 status_after (Err Failed) = 4
 status_after (Err Memory) = 5
 
--- a script of at most 64 MiB was read to its end, and an output was written that is right for it
-pub record Traced (ending : Ending) (left left' taken taken' : Option (List ℕ)) : Type 0 where
+-- a script of at most 64 MiB was read to its end, and an output was written that is right for it in the setting
+pub record Traced (g : Setting) (ending : Ending) (left left' taken taken' : Option (List ℕ)) : Type 0 where
   pub script : List ℕ
   pub output : List ℕ
   pub read : Consumes left left' script
   pub ended : IsAtEnd left'
   pub short : length script ≤ 67108864
   pub written : Appends taken taken' output
-  pub right : IsTrace sixteen_sessions ending script output
+  pub right : IsTrace g ending script output

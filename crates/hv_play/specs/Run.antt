@@ -13,11 +13,16 @@ use Rattle.hv_play.specs.declared.entry.What.TheVariants as what
 use Rattle.hv_play.specs.Script.{Line, empty, bad, hears, line_of, script_lines}
 use Rattle.hv_play.specs.Texts.{entries_text}
 
--- what doesn't change during a run: how many sessions there are, numbered from 0, and the tables of their catalog with
--- what is told of their contents
+-- what doesn't change during a run: how many sessions there are, numbered from 0, and of each the tables of its catalog
+-- with what is told of their contents, and the words from which it draws its seeds
 pub record Setting : Type 0 where
   pub sessions : ℕ
-  pub manner : Manner
+  pub manner : ℕ → Manner
+
+-- a setting of so many sessions over catalogs of no tables
+pub record Suits (g : Setting) (sessions : ℕ) : Type 0 where
+  pub many : g.sessions ≡ sessions
+  pub no_tables : (s : ℕ) → (g.manner s).tables ≡ []
 
 -- the talks of the sessions, by number
 pub record State : Type 0 where
@@ -118,10 +123,10 @@ Does g state (script k (line ∷ lines)) event next more = Did None state (dutie
 Does g state (drain k) event next more = Did None state (drain_duties g k state) event next more
 Does g state (refusing k why) event next more = Did (Some (written (bad_entry k why))) state [] event next more
 Does g state (hearing k s text) event next more =
-    (talk : Talk) × Hears g.manner.tables (talk_of state s) text talk × Did (Some (comes s text)) (with_talk state s talk) (saying k s ∷ []) event next more
-Does g state (saying k s) event next more = SaysOwed g.manner state k s (talk_of state s).due event next more
+    (talk : Talk) × Hears (g.manner s).tables (talk_of state s) text talk × Did (Some (comes s text)) (with_talk state s talk) (saying k s ∷ []) event next more
+Does g state (saying k s) event next more = SaysOwed (g.manner s) state k s (talk_of state s).due event next more
 Does g state (ticking k s) event next more = Did None state (treatings k s (talk_of state s).requests) event next more
-Does g state (treating k s id) event next more = Treats g.manner.told state k s (request_with id (talk_of state s)) event next more
+Does g state (treating k s id) event next more = Treats (g.manner s).told state k s (request_with id (talk_of state s)) event next more
 
 -- ---- runs
 
@@ -158,11 +163,3 @@ pub record IsTrace (g : Setting) (ending : Ending) (script_bytes output : List �
   pub left : List Duty
   pub runs : Runs g (start g) (script 1 (script_lines script_bytes) ∷ []) events last left
   pub is_output : IsOutput ending (entries_of events) left output
-
--- there is no named table, and nothing is told of any
-abbrev pub no_tables : Manner
-no_tables = record { tables = []; told = λ table part. None }
-
--- the sessions of a script stand open from the start
-abbrev pub sixteen_sessions : Setting
-sixteen_sessions = record { sessions = 16; manner = no_tables }

@@ -19,11 +19,6 @@ entries_by k Nothing = []
 entries_by k (Bad why) = bad_entry k why ∷ []
 entries_by k (Said s answer) = map (out k s) (replies_of answer)
 
--- a setting in which so many sessions may be played that are over a catalog of no tables
-pub record Suits (g : Setting) (sessions : ℕ) : Type 0 where
-  pub many : g.sessions ≡ sessions
-  pub no_tables : g.manner.tables ≡ []
-
 -- these duties were done: they showed these lines, and left this state
 pub record Shows (g : Setting) (todo : List Duty) (state : State) (entries : List Entry) (next : State) : Type 0 where
   pub events : List Event

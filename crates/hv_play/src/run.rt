@@ -8,9 +8,9 @@ ghost use Rattle.serde_json.specs.Written.{compact_text, has_float};
 ghost use Rattle.hv_outer.specs.Causes.{HasCause};
 ghost use Rattle.hv_session.specs.Held.{replies_of};
 ghost use Rattle.hv_session.specs.Talk.{Replies, new_talk};
-ghost use Rattle.hv_play.specs.Run.{Setting, whole, early, script, drain, ticking, duties_of, round, is_anything_open, sixteen_sessions};
+ghost use Rattle.hv_play.specs.Run.{Setting, whole, early, script, drain, ticking, duties_of, round, is_anything_open, Suits};
 ghost use Rattle.hv_play.specs.Script.{line_of, line_of_value, script_lines};
-ghost use Rattle.hv_play.specs.Steps.{at, entries_by, Suits, Shows, OneCloses, DoneSoFar, CutShort, Wrote};
+ghost use Rattle.hv_play.specs.Steps.{at, entries_by, Shows, OneCloses, DoneSoFar, CutShort, Wrote};
 
 use crate::entry::{BadLine, LineAnswer};
 use crate::fields::text_at;
@@ -243,10 +243,10 @@ fn new_sessions(alloc: Global) -> Mem<Vec<ScriptSession>>
 /// Does a script: its lines in order, and then the drain.
 pub(crate) fn run<O: Sink>(alloc: Global, bytes: &[u8], out: &mut O) -> Result<(), IoErr>
     requires { length bytes.now < 2 ^ 40 }
-    ensures done { OnOk result
-        (Wrote sixteen_sessions whole bytes.now (O.taken out.old) (O.taken out.new)) }
-    ensures cut { OnErr result
-        (Wrote sixteen_sessions early bytes.now (O.taken out.old) (O.taken out.new)) }
+    ensures done { OnOk result ((g : Setting) → Suits g 16
+        → Wrote g whole bytes.now (O.taken out.old) (O.taken out.new)) }
+    ensures cut { OnErr result ((g : Setting) → Suits g 16
+        → Wrote g early bytes.now (O.taken out.old) (O.taken out.new)) }
     ensures cause { HasCause (O.faults out.old) (O.faults out.new) result }
 {
     let mut sessions = match new_sessions(alloc) {

@@ -3,13 +3,16 @@ use Rattle.std.proofs.Common.{◌≡◌, ◌∙◌, sym, ap, subst, ℕ, zero, s
 use Rattle.std.proofs.lemmas.Bool.{cases_Bool, ltb-true, lt-ltb, eqb-true, eqb-false, or_cases, or_left, or_right}
 use Rattle.std.specs.List.{range_with_len}
 use Rattle.hv_value.specs.Rows.{Row}
+use Rattle.hv_value.specs.Schema.{Columns}
+use Rattle.hv_value.specs.Table.{AreRowsFrom}
 use Rattle.hv_member.specs.Sets.{inserted, numbers}
 use Rattle.hv_member.proofs.MembershipLemmas.{is_in-inserted, is_in-numbers, same_tests}
 use Rattle.hv_member.proofs.RisingLemmas.{IsRising-inserted, IsRising-numbers, same_rising}
 use Rattle.hv_sketch.specs.Parts.{AreBefore}
 use Rattle.hv_lineage.proofs.FlatLemmas.{both}
 use Rattle.hv_lineage.specs.Flat.{Told, append_told, flat_rows, part_rows}
-use Rattle.hv_lineage.specs.Lineages.{TermOver}
+use Rattle.hv_lineage.specs.Lineages.{TermOver, lineage_columns}
+use Rattle.hv_view.specs.Plans.{AreRowsUnder}
 
 -- a number is below one more where it is that number or below it
 below_more : (z n : ℕ) → (eqb z n || ltb z n) ≡ ltb z (n + 1)
@@ -42,8 +45,19 @@ numbers-more n = ap numbers (add-one n) ∙ run_more 0 n n (omega arith)
 pub record RowsBelow (told : Told) (lineage : TermOver) (part : ℕ) (Holds : List Row → Type 0) : Type 0 where
   pub rows : List Row
   pub is : flat_rows told lineage (numbers part) ≡ Some rows
+  pub under : AreRowsUnder (lineage_columns lineage) rows
   pub holds : Holds rows
   pub before : AreBefore part rows
+
+-- rows under columns, and then more of them
+pub under-append : (columns : Columns) (a b : List Row) → AreRowsUnder columns a → AreRowsUnder columns b → AreRowsUnder columns (a ++ b)
+under-append columns [] b h k = k
+under-append columns (row ∷ a) b h k = (h.0, under-append columns a b h.1 k)
+
+-- the rows of a table are under its columns
+pub under-table : (columns : Columns) (part from : ℕ) (rows : List Row) → AreRowsFrom columns part from rows → AreRowsUnder columns rows
+under-table columns part from [] h = tt
+under-table columns part from (row ∷ rows) h = (h.0.kinds, under-table columns part (row.number + 1) rows h.1)
 
 module _ (told : Told) (lineage : TermOver) where
   -- the rows of some partitions and then those of one more

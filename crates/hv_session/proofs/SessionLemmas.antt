@@ -1,13 +1,13 @@
 -- A session keeps to itself as its requests come and go.
-use Rattle.std.proofs.Common.{◌≡◌, ◌∙◌, sym, refl, ap, ℕ, zero, suc, List, [], ◌∷◌, ◌++◌, length, map, ◌+◌, Bool, Option, Some, None, take, drop}
+use Rattle.std.proofs.Common.{◌≡◌, ◌∙◌, sym, refl, ap, subst, ℕ, zero, suc, ◌≤◌, arith, List, [], ◌∷◌, ◌++◌, length, map, ◌+◌, Bool, Option, Some, None, take, drop}
 use Rattle.std.specs.Prelude.{◌==◌, position, not, nat_lt, cond}
 use Rattle.std.specs.List.{AllByRecursion, position_or_len}
 use Rattle.std.proofs.lemmas.List.{map-append, take-map, drop-map, length-map}
 use Rattle.hv_message.specs.Messages.{Known, without}
 use Rattle.hv_message.specs.Messages as ids
 use Rattle.hv_session.specs.declared.request.OpenRequest.{OpenRequest}
-use Rattle.hv_session.specs.Held.{Held, IsFit, IsSession}
-use Rattle.hv_session.specs.Talk.{closed, known}
+use Rattle.hv_session.specs.Held.{Held, IsFit, IsSession, talk_held}
+use Rattle.hv_session.specs.Talk.{Talk, closed, known}
 
 abbrev ids_of : List OpenRequest → List ℕ
 ids_of requests = map (λ (request : OpenRequest). request.id) requests
@@ -67,7 +67,7 @@ session-closed k id requests h = record {
 
 -- what contracts see of a session
 abbrev pub seen : Known → List OpenRequest → Held
-seen k requests = record { tables = k.tables; talk = record { objects = k.objects; requests = requests; due = []; ended = k.ended } }
+seen k requests = record { tables = k.tables; talk = talk_held k requests }
 
 -- what it knows is what its talk says
 pub known-is : (k : Known) (requests : List OpenRequest) (held : Held) → IsSession k requests → seen k requests ≡ held → known held.tables held.talk ≡ k
@@ -76,3 +76,11 @@ known-is k requests held keeps is = ap (λ (h : Held). known h.tables h.talk) (s
 -- and it owes nothing
 pub due-is : (k : Known) (requests : List OpenRequest) (held : Held) → seen k requests ≡ held → held.talk.due ≡ []
 due-is k requests held is = sym (ap (λ (h : Held). h.talk.due) is)
+
+-- a session between two calls: it owes nothing, and drew no more seeds than were wanted
+pub record Rests (talk : Talk) : Type 0 where
+  pub due : talk.due ≡ []
+  pub drew : talk.drawn ≤ talk.passed
+
+pub rests-is : (k : Known) (requests : List OpenRequest) (held : Held) → seen k requests ≡ held → Rests held.talk
+rests-is k requests held is = subst (λ (h : Held). Rests h.talk) is (record { due = refl; drew = omega arith })

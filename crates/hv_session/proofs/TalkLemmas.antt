@@ -1,5 +1,5 @@
 -- What a session owes after a text, and that it was paid.
-use Rattle.std.proofs.Common.{◌≡◌, ◌∙◌, sym, refl, ap, subst, ℕ, ◌<◌, ◌≤◌, List, [], ◌∷◌, length, true, Option, Some, None, Err, inl, inr}
+use Rattle.std.proofs.Common.{◌≡◌, ◌∙◌, sym, refl, ap, subst, ℕ, ◌<◌, ◌≤◌, List, [], ◌∷◌, length, true, Option, Some, None, Err, inl, inr, arith}
 use Rattle.std.proofs.lemmas.Bool.{le-leb, lt-leb}
 use Rattle.std.specs.Prelude.{◌⊎◌, option_and_then}
 use Rattle.serde_json.specs.Data.{Data}
@@ -16,6 +16,7 @@ use Rattle.hv_message.specs.Messages.{Known, cancels, ends, means, malformed, re
 use Rattle.hv_reply.specs.declared.reply.Reply.{Reply}
 use Rattle.hv_reply.specs.declared.reply.Reply.TheVariants as reply
 use Rattle.hv_session.specs.Held.{Serves, refusal_reply}
+use Rattle.hv_session.proofs.SessionLemmas.{Rests}
 use Rattle.hv_session.specs.Talk.{Talk, answers, ending, Pays, Replies, served, refused, after_meaning, after_reading, closed, known}
 
 -- a session that owes nothing, as it is
@@ -48,32 +49,32 @@ replies_refused tables talk text id e whose = record {
   pays = pays_one talk (reply.NoMem id) e;
 }
 
-pub replies_malformed : (tables : Tables) (talk : Talk) (text : List ℕ) (w : Why) (id : Option ℕ) → talk.due ≡ [] → reading (known tables talk) text ≡ malformed w id
+pub replies_malformed : (tables : Tables) (talk : Talk) (text : List ℕ) (w : Why) (id : Option ℕ) → Rests talk → reading (known tables talk) text ≡ malformed w id
     → Replies tables talk text (reply.Malformed id w ∷ []) talk
-replies_malformed tables talk text w id e is = record {
+replies_malformed tables talk text w id rests is = record {
   owing = record talk { due = answers (reply.Malformed id w) ∷ [] };
-  hears = record { nothing_due = e; how = served; is_hearing = tt; next_is = sym (ap (after_reading talk) is) };
-  pays = pays_one talk (reply.Malformed id w) e;
+  hears = record { nothing_due = rests.due; how = served talk.drawn; is_hearing = (omega arith, rests.drew); next_is = sym (ap (after_reading talk) is) };
+  pays = pays_one talk (reply.Malformed id w) rests.due;
 }
 
-pub replies_served : (tables : Tables) (talk next : Talk) (text : List ℕ) (message : Message) (replies : List Reply) → talk.due ≡ []
+pub replies_served : (tables : Tables) (talk next : Talk) (text : List ℕ) (message : Message) (replies : List Reply) → Rests talk
     → reading (known tables talk) text ≡ means (message_meant message) → id_of_text text ≡ Some (id_of message)
     → Serves talk message replies next → Replies tables talk text replies next
-replies_served tables talk next text message replies e is own (inl pays) = record {
+replies_served tables talk next text message replies rests is own (inl pays) = record {
   owing = after_meaning talk (message_meant message);
-  hears = record { nothing_due = e; how = served; is_hearing = tt; next_is = sym (ap (after_reading talk) is) };
+  hears = record { nothing_due = rests.due; how = served talk.drawn; is_hearing = (omega arith, rests.drew); next_is = sym (ap (after_reading talk) is) };
   pays = pays;
 }
-replies_served tables talk next text message replies e is own (inr h) =
+replies_served tables talk next text message replies rests is own (inr h) =
     subst (λ rs. Replies tables talk text rs next) (sym h.0)
     (subst (λ t. Replies tables talk text (reply.NoMem (Some (id_of message)) ∷ []) t) (sym h.1)
-    (replies_refused tables talk text (Some (id_of message)) e (inr (sym own))))
+    (replies_refused tables talk text (Some (id_of message)) rests.due (inr (sym own))))
 
 -- a text that gave no message
-pub replies_refusal : (tables : Tables) (talk : Talk) (text : List ℕ) (k : Known) (refusal : Refusal) → talk.due ≡ [] → known tables talk ≡ k
+pub replies_refusal : (tables : Tables) (talk : Talk) (text : List ℕ) (k : Known) (refusal : Refusal) → Rests talk → known tables talk ≡ k
     → IsReading k (Err refusal) (id_of_text text) (reading k text) → Replies tables talk text (refusal_reply refusal ∷ []) talk
-replies_refusal tables talk text k (refusal.Malformed why id) e same is = replies_malformed tables talk text why id e (ap (λ x. reading x text) same ∙ is)
-replies_refusal tables talk text k (refusal.Memory id) e same is = replies_refused tables talk text id e is
+replies_refusal tables talk text k (refusal.Malformed why id) rests same is = replies_malformed tables talk text why id rests (ap (λ x. reading x text) same ∙ is)
+replies_refusal tables talk text k (refusal.Memory id) rests same is = replies_refused tables talk text id rests.due is
 
 -- ---- what a text is
 

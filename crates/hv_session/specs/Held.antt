@@ -4,7 +4,7 @@ use Rattle.std.specs.List.{AllByRecursion}
 use Rattle.hv_value.specs.Catalog.{Tables}
 use Rattle.hv_lineage.specs.Flat.{Told}
 use Rattle.hv_lineage.specs.Lineages.{lineage_columns}
-use Rattle.hv_view.specs.Stands.{FitsAny}
+use Rattle.hv_view.specs.Plans.{FitsPlan}
 use Rattle.hv_message.specs.declared.message.Message.{Message}
 use Rattle.hv_message.specs.declared.message.Refusal.{Refusal}
 use Rattle.hv_message.specs.declared.message.Refusal.TheVariants as refusal
@@ -23,17 +23,21 @@ pub record Held : Type 0 where
   pub tables : Tables
   pub talk : Talk
 
+-- the talk of a session that owes nothing and has drawn no seed, by what it knows and its open requests
+abbrev pub talk_held : Known → List OpenRequest → Talk
+talk_held k requests = record { objects = k.objects; requests = requests; due = []; ended = k.ended; drawn = 0; passed = 0 }
+
 -- the replies of an answer, in order
 abbrev pub replies_of : Answer → List Reply
 replies_of Nothing = []
 replies_of (One r) = r ∷ []
 replies_of (Two r later) = r ∷ later ∷ []
 
--- a request's view is one of the columns of its lineage
+-- a request's plan is right for the columns of its lineage
 abbrev pub IsFit : OpenRequest → Type 0
-IsFit request = FitsAny request.view (lineage_columns request.of)
+IsFit request = FitsPlan request.plan (lineage_columns request.of)
 
--- what a session keeps: the ids that it knows are those of its requests, whose views fit
+-- what a session keeps: the ids that it knows are those of its requests, whose plans fit
 pub record IsSession (known : Known) (requests : List OpenRequest) : Type 0 where
   pub ids : known.requests ≡ map (λ request. request.id) requests
   pub fit : AllByRecursion IsFit requests

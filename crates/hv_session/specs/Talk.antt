@@ -1,33 +1,38 @@
 -- Which talk of one session is right: what each text that it hears makes due, and what may be said.
-use Rattle.std.specs.Prelude.{◌≡◌, ◌⊎◌, ℕ, ◌==◌, List, [], ◌∷◌, ◌++◌, length, map, drop, find, position, Bool, true, false, Option, Some, None}
+use Rattle.std.specs.Prelude.{◌≡◌, ◌⊎◌, ℕ, ◌==◌, ◌≤◌, List, [], ◌∷◌, ◌++◌, length, map, drop, find, position, Bool, true, false, Option, Some, None}
 use Rattle.hv_value.specs.Catalog.{Tables}
 use Rattle.hv_value.specs.Rows.{Row}
 use Rattle.hv_member.specs.Sets.{numbers}
 use Rattle.hv_lineage.specs.Flat.{Told, AreFlat}
 use Rattle.hv_lineage.specs.Lineages.{TermOver, lineage_parts}
-use Rattle.hv_view.specs.View.{IsView}
+use Rattle.hv_view.specs.Plans.{OfPlan}
 use Rattle.hv_view.specs.declared.shown.Shown.{Shown}
 use Rattle.hv_message.specs.Messages.{Known, Meaning, makes, tells, views, cancels, ends, Reading, means, malformed, reading, id_of_text, without}
 use Rattle.hv_reply.specs.declared.reply.Reply.{Reply}
 use Rattle.hv_reply.specs.declared.reply.Reply.TheVariants as reply
 use Rattle.hv_session.specs.declared.request.OpenRequest.{OpenRequest}
 
--- an answer that is owed: a reply, the making of an object that the message with an id asked for, or the end of the request with an id
+-- an answer that is owed: a reply, the making of an object that the message with an id asked for, with the seed that the
+-- answer shows, or the end of the request with an id
 pub data Due : Type 0 where
   answers : Reply → Due
-  making : ℕ → TermOver → Due
+  making : ℕ → TermOver → Option ℕ → Due
   ending : ℕ → Due
 
--- a session: its objects by number, its open requests in the order in which they were opened, what is owed, whether it heard `end`
+-- a session: its objects by number, its open requests in the order in which they were opened, what is owed, whether it
+-- heard `end`, and of the texts that it heard which want a seed and give none, how many it answered with a drawn one and
+-- how many they are
 pub record Talk : Type 0 where
   pub objects : List TermOver
   pub requests : List OpenRequest
   pub due : List Due
   pub ended : Bool
+  pub drawn : ℕ
+  pub passed : ℕ
 
 -- a session that has heard nothing
 abbrev pub new_talk : Talk
-new_talk = record { objects = []; requests = []; due = []; ended = false }
+new_talk = record { objects = []; requests = []; due = []; ended = false; drawn = 0; passed = 0 }
 
 -- ---- what is heard
 
@@ -35,21 +40,23 @@ new_talk = record { objects = []; requests = []; due = []; ended = false }
 abbrev pub known : Tables → Talk → Known
 known tables talk = record { tables = tables; objects = talk.objects; requests = map (λ request. request.id) talk.requests; ended = talk.ended }
 
--- how a text was heard: served, or refused memory, with the id that the refusal names
+-- how a text was heard: served, with the place among the session's words of the one that is drawn where one is, or
+-- refused memory, with the id that the refusal names
 pub data Hearing : Type 0 where
-  served : Hearing
+  served : ℕ → Hearing
   refused : Option ℕ → Hearing
 
--- a refusal names the text's own id or none
-abbrev pub IsHearing : List ℕ → Hearing → Type 0
-IsHearing text served = Unit {0}
-IsHearing text (refused id) = (id ≡ None) ⊎ (id ≡ id_of_text text)
+-- a word that is drawn comes after those that were shown, and none is passed over but for want of memory; a refusal
+-- names the text's own id or none
+abbrev pub IsHearing : Talk → List ℕ → Hearing → Type 0
+IsHearing talk text (served place) = (talk.drawn ≤ place) × (place ≤ talk.passed)
+IsHearing talk text (refused id) = (id ≡ None) ⊎ (id ≡ id_of_text text)
 
 -- the session after a message
 abbrev pub after_meaning : Talk → Meaning → Talk
-after_meaning talk (makes id lineage) = record talk { due = making id lineage ∷ [] }
+after_meaning talk (makes id lineage) = record talk { due = making id lineage None ∷ [] }
 after_meaning talk (tells id lineage) = record talk { due = answers (reply.Info id lineage) ∷ [] }
-after_meaning talk (views id lineage view) = record talk { requests = talk.requests ++ record { id = id; of = lineage; view = view } ∷ [] }
+after_meaning talk (views id lineage plan) = record talk { requests = talk.requests ++ record { id = id; of = lineage; plan = plan } ∷ [] }
 after_meaning talk (cancels id request) = record talk { due = ending request ∷ answers (reply.Done id) ∷ [] }
 after_meaning talk (ends id) = record talk { ended = true }
 
@@ -60,14 +67,14 @@ after_reading talk (malformed why id) = record talk { due = answers (reply.Malfo
 
 -- the session after a text
 abbrev pub heard : Tables → Talk → List ℕ → Hearing → Talk
-heard tables talk text served = after_reading talk (reading (known tables talk) text)
+heard tables talk text (served place) = after_reading talk (reading (known tables talk) text)
 heard tables talk text (refused id) = record talk { due = answers (reply.NoMem id) ∷ [] }
 
 -- a session hears a text: nothing is owed before
 pub record Hears (tables : Tables) (talk : Talk) (text : List ℕ) (next : Talk) : Type 0 where
   pub nothing_due : talk.due ≡ []
   pub how : Hearing
-  pub is_hearing : IsHearing text how
+  pub is_hearing : IsHearing talk text how
   pub next_is : next ≡ heard tables talk text how
 
 -- ---- what is said
@@ -75,7 +82,7 @@ pub record Hears (tables : Tables) (talk : Talk) (text : List ℕ) (next : Talk)
 -- the reply that pays what is owed
 abbrev pub due_reply : Talk → Due → Reply
 due_reply talk (answers r) = r
-due_reply talk (making id lineage) = reply.Made id (length talk.objects) None
+due_reply talk (making id lineage seed) = reply.Made id (length talk.objects) seed
 due_reply talk (ending request) = reply.Cancelled request
 
 -- the requests without the first one with an id
@@ -84,12 +91,12 @@ closed id requests = without (position (λ (request : OpenRequest). request.id =
 
 abbrev pub with_made : List TermOver → Due → List TermOver
 with_made objects (answers r) = objects
-with_made objects (making id lineage) = objects ++ lineage ∷ []
+with_made objects (making id lineage seed) = objects ++ lineage ∷ []
 with_made objects (ending request) = objects
 
 abbrev pub with_ended : List OpenRequest → Due → List OpenRequest
 with_ended requests (answers r) = requests
-with_ended requests (making id lineage) = requests
+with_ended requests (making id lineage seed) = requests
 with_ended requests (ending request) = closed request requests
 
 -- the session after the first answer that is owed was said
@@ -109,13 +116,13 @@ pub record Replies (tables : Tables) (talk : Talk) (text : List ℕ) (replies : 
 
 -- ---- open requests
 
--- a reply is a request's last word: the value of its view over the whole table that its lineage names. Where contents
+-- a reply is a request's last word: the value of its plan over the whole table that its lineage names. Where contents
 -- that it needs aren't told, it is that of some rows of the table's partitions
 pub record IsFinal (told : Told) (request : OpenRequest) (r : Reply) : Type 0 where
   pub rows : List Row
   pub whole : AreFlat told request.of (numbers (lineage_parts request.of)) rows
   pub value : Shown
-  pub is_value : IsView request.view rows value
+  pub is_value : OfPlan request.plan rows rows value
   pub is : r ≡ reply.Final request.id (record { size = lineage_parts request.of; parts = numbers (lineage_parts request.of) }) value
 
 -- a request is answered: by its last word, or since memory was refused
@@ -134,10 +141,12 @@ pub record Closes (told : Told) (talk : Talk) (request : OpenRequest) (r : Reply
 
 -- ---- a whole talk
 
--- what doesn't change during a talk: the tables of the catalog, and what is told of their contents
+-- what doesn't change during a talk: the tables of the catalog, what is told of their contents, and the words from which
+-- the session draws its seeds, by place
 pub record Manner : Type 0 where
   pub tables : Tables
   pub told : Told
+  pub words : ℕ → ℕ
 
 -- what is said in a talk: a text comes to the session, or a reply goes out
 pub data Spoken : Type 0 where

@@ -8,6 +8,10 @@ ghost use Rattle.hv_lineage.specs.Flat.{Told, part_bytes, whole_rows};
 ghost use Rattle.hv_lineage.specs.Lineages.{lineage_columns, lineage_parts};
 ghost use Rattle.hv_session.specs.Held.{IsFit};
 ghost use Rattle.hv_session.specs.Talk.{Answers, IsFinal};
+ghost use Rattle.hv_session.specs.Whole.{IsWhole};
+ghost use Rattle.hv_view.specs.Plans.{FitsPlan, OfPlan};
+ghost use Rattle.hv_view.specs.Stands.{FitsAny};
+ghost use Rattle.hv_view.specs.View.{IsView};
 
 use crate::OpenRequest;
 use hv_lineage::{Base, Lineage};
@@ -16,7 +20,7 @@ use hv_member::PartSet;
 use hv_reply::Reply;
 use hv_sketch::{Vizketch, add_part};
 use hv_value::{Mem, Memory};
-use hv_view::finish;
+use hv_view::{AnyView, Plan, Second, Shown, conclude, finish, first_view, then};
 use std::alloc::Global;
 
 /// All partitions of a table that has so many.
@@ -48,8 +52,7 @@ fn bytes_of(lineage: &Lineage, part: u32) -> Mem<&[u8]>
 /// A view's summary of all the rows of a lineage, partition by partition.
 fn summary_of<V: Vizketch>(alloc: Global, view: &V, lineage: &Lineage) -> Mem<V::Summary>
     requires { V.fits_columns view.now (lineage_columns lineage.now) }
-    ensures { IfOk result (λ summary. (told : Told) → (rows : List Row) × (whole_rows told lineage.now ≡ Some rows)
-        × V.stands view.now rows summary) }
+    ensures { IfOk result (λ summary. (told : Told) → IsWhole told lineage.now (λ rows. V.stands view.now rows summary)) }
 {
     // for its clause `whole` alone
     let _schema = lineage.schema();
@@ -61,17 +64,41 @@ fn summary_of<V: Vizketch>(alloc: Global, view: &V, lineage: &Lineage) -> Mem<V:
     Ok(summary)
 }
 
+/// A view's value over all the rows of a lineage.
+fn shown_of(alloc: Global, view: &AnyView, lineage: &Lineage) -> Mem<Shown>
+    requires { FitsAny view.now (lineage_columns lineage.now) }
+    ensures { IfOk result (λ shown. (told : Told) → IsWhole told lineage.now (λ rows. IsView view.now rows shown)) }
+{
+    let summary = summary_of(alloc, view, lineage)?;
+    finish(alloc, view, &summary)
+}
+
+/// A plan's value over all the rows of a lineage.
+fn value_of(alloc: Global, plan: &Plan, lineage: &Lineage) -> Mem<Shown>
+    requires { FitsPlan plan.now (lineage_columns lineage.now) }
+    ensures { IfOk result (λ shown. (told : Told) → IsWhole told lineage.now (λ rows. OfPlan plan.now rows rows shown)) }
+{
+    let view = first_view(alloc, plan, lineage.schema())?;
+    let first = shown_of(alloc, &view, lineage)?;
+    match then(alloc, plan, lineage.schema(), &first)? {
+        Second::Value(value) => Ok(value),
+        Second::View(view) => {
+            let second = shown_of(alloc, &view, lineage)?;
+            conclude(alloc, plan, &first, second)
+        }
+    }
+}
+
 /// The value of a request over all partitions.
 fn final_of(alloc: Global, request: &OpenRequest) -> Mem<Reply>
     requires { IsFit request.now }
     ensures { IfOk result (λ reply. (told : Told) → IsFinal told request.now reply) }
 {
     let lineage = request.of.get();
-    let summary = summary_of(alloc, &request.view, lineage)?;
     Ok(Reply::Final {
         id: request.id,
         parts: all_parts(alloc, lineage.parts())?,
-        value: finish(alloc, &request.view, &summary)?,
+        value: value_of(alloc, &request.plan, lineage)?,
     })
 }
 

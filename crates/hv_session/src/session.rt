@@ -17,7 +17,7 @@ use hv_lineage::{Lineage, Shared};
 use hv_message::{MAX_MESSAGE_BYTES, Message, Refusal, TalkState, Why, read_message, read_value};
 use hv_reply::Reply;
 use hv_value::{Catalog, Mem};
-use hv_view::AnyView;
+use hv_view::Plan;
 use serde_json::Value;
 use std::alloc::Global;
 use std::marker::Model;
@@ -31,16 +31,15 @@ pub struct Session {
 }
 
 impl Model for Session {
-    ghost use Rattle.std.specs.Prelude.{[]};
     ghost use Rattle.std.specs.Coded.{codes};
     ghost use Rattle.hv_lineage.specs.contracts.term.Term as term_row;
-    ghost use Rattle.hv_session.specs.Held.{Held, IsSession};
+    ghost use Rattle.hv_session.specs.Held.{Held, IsSession, talk_held};
 
     ghost Value = { Held };
 
     ghost coded = { Prim.hlevel (codes, term_row.the_row.coded) };
 
-    ghost view = { λ s. record { tables = s.state.tables; talk = record { objects = s.state.objects; requests = s.requests.items; due = []; ended = s.state.ended } } };
+    ghost view = { λ s. record { tables = s.state.tables; talk = talk_held s.state s.requests.items } };
 
     ghost invariant = { λ s. IsSession s.state s.requests.items };
 }
@@ -99,7 +98,7 @@ impl Session {
                 id,
                 of: Shared::of(of),
             }),
-            Message::View { id, of, view } => self.open(id, of, view),
+            Message::View { id, of, plan } => self.open(id, of, plan),
             Message::Cancel { id, request } => self.cancel(id, request),
             Message::End { id: _ } => self.end(),
         }
@@ -122,21 +121,21 @@ impl Session {
     }
 
     /// Opens a request.
-    fn open(&mut self, id: u64, of: Arc<Lineage>, view: AnyView) -> Answer
-        requires { CanOpen (known self.old.tables self.old.talk) id (arc_value of) view }
-        ensures talk { Serves self.old.talk (Message.View id of view) (replies_of result) self.new.talk }
+    fn open(&mut self, id: u64, of: Arc<Lineage>, plan: Plan) -> Answer
+        requires { CanOpen (known self.old.tables self.old.talk) id (arc_value of) plan }
+        ensures talk { Serves self.old.talk (Message.View id of plan) (replies_of result) self.new.talk }
         ensures tables { self.new.tables ≡ self.old.tables }
     {
-        match self.opened(id, of, view) {
+        match self.opened(id, of, plan) {
             Ok(()) => Answer::Nothing,
             Err(_) => Answer::One(Reply::NoMem { id: Some(id) }),
         }
     }
 
     /// Notes an open request with what the reading of messages knows of it, or leaves both as they were.
-    fn opened(&mut self, id: u64, of: Arc<Lineage>, view: AnyView) -> Mem<()>
-        requires { CanOpen (known self.old.tables self.old.talk) id (arc_value of) view }
-        ensures ok { OnOk result (Pays (after_meaning self.old.talk (message_meant (Message.View id of view))) [] self.new.talk) }
+    fn opened(&mut self, id: u64, of: Arc<Lineage>, plan: Plan) -> Mem<()>
+        requires { CanOpen (known self.old.tables self.old.talk) id (arc_value of) plan }
+        ensures ok { OnOk result (Pays (after_meaning self.old.talk (message_meant (Message.View id of plan))) [] self.new.talk) }
         ensures err { OnErr result (self.new.talk ≡ self.old.talk) }
         ensures tables { self.new.tables ≡ self.old.tables }
     {
@@ -145,7 +144,7 @@ impl Session {
         self.requests.push_reserved(OpenRequest {
             id,
             of: Shared::of(of),
-            view,
+            plan,
         });
         Ok(())
     }

@@ -13,9 +13,9 @@ use crate::{CellRef, Schema, Text};
 /// The most rows of a partition, and so one more than its greatest row number.
 pub const MAX_ROWS: u32 = 1 << 26;
 
-/// A column of texts by codes, as a table lends it: the different texts, each once, and a code for each row
-/// number of the partition, whether the row is there or not. Code 0 is a missing cell, and code k + 1 the text
-/// at place k.
+/// A column of texts by codes, as a table lends it: the different texts, each once, and codes by row number.
+/// At the number of a row that is there stands its cell's code: 0 is a missing cell, and k + 1 the text at
+/// place k. At other numbers stands any code from 0 to the number of texts.
 #[derive(Clone, Copy)]
 pub struct Coded<'a> {
     pub words: &'a [Text],

@@ -1,6 +1,6 @@
 use Rattle.std.proofs.Common.{◌≡◌, ◌<◌, ◌≤◌, ℕ, [], drop, length}
-use Rattle.hv_play.specs.Run.{Setting, round, talk_of}
-use Rattle.hv_play.specs.Steps.{at, DoneSoFar, Suits}
+use Rattle.hv_play.specs.Run.{Setting, Suits, round, talk_of}
+use Rattle.hv_play.specs.Steps.{at, DoneSoFar}
 use Rattle.hv_play.proofs.run.do_round.Given as goal
 
 -- the sessions before this one have ticked, and have no open request

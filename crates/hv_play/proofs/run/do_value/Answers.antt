@@ -27,7 +27,7 @@ returns-in-Some-message_in_line c = λ g k suits.
     let talks = c.args.sessions.now in
     let s = c.in-Some.s in
     let within : s < length talks = omega (arith, c.in-Some.ensures.within, c.requires.all) in
-    value_heard g k s value (compact_text (view c.in-Some-message_in_line.message.now)) (at talks) c.index-sessions-s.result c.hear_message.new.session (replies_of c.hear_message.result) suits.no_tables within
+    value_heard g k s value (compact_text (view c.in-Some-message_in_line.message.now)) (at talks) c.index-sessions-s.result c.hear_message.new.session (replies_of c.hear_message.result) (suits.no_tables s) within
     (sym c.in-Some.ensures.session) (ap (text_or_raw value) (sym c.in-Some-message_in_line.ensures.message)) c.hear_message.ensures
 
 -- the session hears a text
@@ -37,7 +37,7 @@ returns-in-Some-text_at c = λ g k suits.
     let talks = c.args.sessions.now in
     let s = c.in-Some.s in
     let within : s < length talks = omega (arith, c.in-Some.ensures.within, c.requires.all) in
-    value_heard g k s value c.in-Some-text_at.text.now (at talks) c.index-sessions-s.result c.hear.new.self (replies_of c.hear.result) suits.no_tables within
+    value_heard g k s value c.in-Some-text_at.text.now (at talks) c.index-sessions-s.result c.hear.new.self (replies_of c.hear.result) (suits.no_tables s) within
     (sym c.in-Some.ensures.session) (ap (text_or_raw value) (sym c.in_default-message_in_line.ensures.message) ∙ sym c.in-Some-text_at.ensures) c.hear.ensures
 
 -- there is nothing to hear

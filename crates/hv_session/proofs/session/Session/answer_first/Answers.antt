@@ -1,8 +1,6 @@
 use Rattle.std.proofs.Common.{◌≡◌, ◌∙◌, ◌∷◌, [], sym, ap}
 use Rattle.std.specs.Prelude.{slice_get}
-use Rattle.hv_message.specs.Messages.{Known}
-use Rattle.hv_session.specs.Held.{Held}
-use Rattle.hv_session.specs.Talk.{Talk}
+use Rattle.hv_session.specs.Held.{Held, talk_held}
 use Rattle.hv_session.proofs.FirstLemmas.{headed}
 use Rattle.hv_session.proofs.SessionLemmas.{due-is}
 use Rattle.hv_session.proofs.session.Session.answer_first.Goals as goal
@@ -15,12 +13,11 @@ returns-clause-some c =
     let later = c.remove.new.self.items in
     let left : requests ≡ first ∷ later =
     headed requests first (c.in_ok-first.ensures.value ∙ ap (λ rs. slice_get rs 0) c.deref.ensures.value) ∙ ap (λ rs. first ∷ rs) (sym c.remove.ensures.items) in
-    let next : Known → Talk = λ k. record { objects = k.objects; requests = later; due = []; ended = k.ended } in
     record {
       request = first;
       later = later;
       nothing_due = due-is c.self.inside.state requests held c.self.view_is;
       first = sym (ap (λ (h : Held). h.talk.requests) c.self.view_is) ∙ left;
       answers = c.last_word-reply.ensures;
-      next_is = ap next c.drop_id.ensures ∙ ap (λ (h : Held). record h.talk { requests = later }) c.self.view_is;
+      next_is = ap (λ k. talk_held k later) c.drop_id.ensures ∙ ap (λ (h : Held). record h.talk { requests = later }) c.self.view_is;
     }

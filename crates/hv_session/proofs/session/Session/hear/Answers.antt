@@ -3,7 +3,7 @@ use Rattle.hv_reply.specs.declared.reply.Reply.{Reply}
 use Rattle.hv_session.specs.Talk.{Replies}
 use Rattle.hv_message.specs.Messages.{reading}
 use Rattle.hv_session.specs.Held.{replies_of}
-use Rattle.hv_session.proofs.SessionLemmas.{due-is, known-is}
+use Rattle.hv_session.proofs.SessionLemmas.{rests-is, known-is}
 use Rattle.hv_session.proofs.TalkLemmas.{replies_served, replies_refusal}
 use Rattle.hv_session.proofs.session.Session.hear.Goals as goal
 
@@ -12,7 +12,7 @@ returns-in-Ok-clause-talk c =
     let held = c.args.self.now in
     let text = c.args.text.now in
     replies_served held.tables held.talk c.serve.new.self.talk text c.in-Ok.message (replies_of c.serve.result)
-    (due-is c.self.inside.state c.self.inside.requests.items held c.self.view_is)
+    (rests-is c.self.inside.state c.self.inside.requests.items held c.self.view_is)
     (ap (λ k. reading k text) (known-is c.self.inside.state c.self.inside.requests.items held c.self.invariant c.self.view_is) ∙ c.in-Ok.ensures.0)
     c.in-Ok.ensures.2 c.serve.ensures.talk
 
@@ -22,6 +22,6 @@ returns-in-Err-clause-talk c =
     let text = c.args.text.now in
     subst (λ (r : Reply). Replies held.tables held.talk text (r ∷ []) held.talk) (sym c.refused.ensures)
     (replies_refusal held.tables held.talk text c.self.inside.state c.in-Err.refusal
-    (due-is c.self.inside.state c.self.inside.requests.items held c.self.view_is)
+    (rests-is c.self.inside.state c.self.inside.requests.items held c.self.view_is)
     (known-is c.self.inside.state c.self.inside.requests.items held c.self.invariant c.self.view_is)
     c.in-Err.ensures)
