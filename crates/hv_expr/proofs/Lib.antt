@@ -2,6 +2,7 @@ pub mod CivilLemmas
 pub mod ContainsLemmas
 pub mod DepthLemmas
 pub mod FaultLemmas
+pub mod FoldLemmas
 pub mod Folds
 pub mod IntTests
 pub mod LinearLemmas

@@ -2,7 +2,7 @@
 use Rattle.std.proofs.Common.{◌≡◌, ℕ, Bool, true, false, not, List, [], ◌∷◌, ◌++◌, length, nat_lt, Option, refl, ap, sym, ◌∙◌}
 use Rattle.std.specs.List.{list_all, list_any, position_or_len}
 use Rattle.std.proofs.lemmas.List.{map-append}
-use Rattle.std.proofs.lemmas.List.Folds.{list_all-append, list_all-map}
+use Rattle.std.proofs.lemmas.List.Folds.{list_all-append, list_all-map, list_any-append}
 use Rattle.hv_value.specs.declared.cell.Cell.{Cell}
 use Rattle.hv_value.specs.declared.cell.Cell.TheVariants as cell
 use Rattle.hv_value.specs.Schema.{Columns, column_place, is_named}
@@ -14,10 +14,11 @@ use Rattle.hv_expr.specs.declared.ready_pred.ReadyPred as ready
 use Rattle.hv_expr.specs.declared.text_test.TextTest.{TextTest}
 use Rattle.hv_expr.specs.declared.ready_test.ReadyTest.{ReadyTest}
 use Rattle.hv_expr.specs.Holds.{cell_meets, holds, is_missing, is_related, node_holds}
+use Rattle.hv_expr.specs.Memory.{node_takes_memory, pred_takes_memory}
 use Rattle.hv_expr.specs.Values.{cell_at_place, cell_named}
-use Rattle.hv_expr.specs.Ready.{AreReadyPreds, IsReadyPred, IsReadyTest, is_place_within, is_pred_node_within, is_pred_within, ready_cell_meets, ready_holds, ready_node_holds}
+use Rattle.hv_expr.specs.Ready.{AreReadyPreds, IsReadyPred, IsReadyTest, is_place_within, is_pred_node_within, is_pred_within, ready_cell_meets, ready_holds, ready_node_holds, ready_node_takes_memory, ready_pred_takes_memory, ready_takes_memory}
 use Rattle.hv_expr.proofs.Folds.{fold-Cmp, fold-Missing, fold-Match, fold-Not}
-use Rattle.hv_expr.proofs.PartLemmas.{and-holds, or-holds, list_any-map}
+use Rattle.hv_expr.proofs.PartLemmas.{and-holds, and-memory, or-holds, or-memory, list_any-map}
 use Rattle.hv_expr.proofs.ReadyFolds.{fold-p-Cmp, fold-p-Missing, fold-p-Match, fold-p-And, fold-p-Or, fold-p-Not}
 
 -- a column's place is that of one of the columns
@@ -31,17 +32,19 @@ place-within name columns = by (nat_lt (position_or_len (is_named name) columns)
 
 module _ (columns : Columns) where
   pub ready-cmp : (col : List ℕ) (how : Rel) (to : Cell) → IsReadyPred columns (tree.Cmp col how to) (ready.Cmp (column_place col columns) how to)
-  unfolding is_pred_within ready_holds holds
+  unfolding is_pred_within ready_holds holds ready_pred_takes_memory pred_takes_memory
   ready-cmp col how to = record {
     within = fold-p-Cmp Bool (is_pred_node_within (length columns)) (column_place col columns) how to ∙ place-within col columns;
     same = λ cells. fold-p-Cmp Bool (ready_node_holds cells) (column_place col columns) how to ∙ sym (fold-Cmp Bool (node_holds columns cells) col how to);
+    memory = fold-p-Cmp Bool ready_node_takes_memory (column_place col columns) how to ∙ sym (fold-Cmp Bool node_takes_memory col how to);
   }
 
   pub ready-missing : (col : List ℕ) → IsReadyPred columns (tree.Missing col) (ready.Missing (column_place col columns))
-  unfolding is_pred_within ready_holds holds
+  unfolding is_pred_within ready_holds holds ready_pred_takes_memory pred_takes_memory
   ready-missing col = record {
     within = fold-p-Missing Bool (is_pred_node_within (length columns)) (column_place col columns) ∙ place-within col columns;
     same = λ cells. fold-p-Missing Bool (ready_node_holds cells) (column_place col columns) ∙ sym (fold-Missing Bool (node_holds columns cells) col);
+    memory = fold-p-Missing Bool ready_node_takes_memory (column_place col columns) ∙ sym (fold-Missing Bool node_takes_memory col);
   }
 
   same-test : (test : TextTest) (made : ReadyTest) → IsReadyTest test made → (c : Cell) → ready_cell_meets made c ≡ cell_meets test c
@@ -52,18 +55,20 @@ module _ (columns : Columns) where
 
   pub ready-match : (col : List ℕ) (test : TextTest) (made : ReadyTest) → IsReadyTest test made
       → IsReadyPred columns (tree.Match col test) (ready.Match (column_place col columns) made)
-  unfolding is_pred_within ready_holds holds
+  unfolding is_pred_within ready_holds holds ready_pred_takes_memory pred_takes_memory
   ready-match col test made is = record {
     within = fold-p-Match Bool (is_pred_node_within (length columns)) (column_place col columns) made ∙ place-within col columns;
     same = λ cells. fold-p-Match Bool (ready_node_holds cells) (column_place col columns) made
         ∙ (same-test test made is (cell_named columns cells col) ∙ sym (fold-Match Bool (node_holds columns cells) col test));
+    memory = fold-p-Match Bool ready_node_takes_memory (column_place col columns) made ∙ (is.memory ∙ sym (fold-Match Bool node_takes_memory col test));
   }
 
   pub ready-not : (of : Pred) (made : ReadyPred) → IsReadyPred columns of made → IsReadyPred columns (tree.Not of) (ready.Not made)
-  unfolding is_pred_within ready_holds holds
+  unfolding is_pred_within ready_holds holds ready_pred_takes_memory pred_takes_memory
   ready-not of made is = record {
     within = fold-p-Not Bool (is_pred_node_within (length columns)) made ∙ is.within;
     same = λ cells. fold-p-Not Bool (ready_node_holds cells) made ∙ (ap not (is.same cells) ∙ sym (fold-Not Bool (node_holds columns cells) of));
+    memory = fold-p-Not Bool ready_node_takes_memory made ∙ (is.memory ∙ sym (fold-Not Bool node_takes_memory of));
   }
 
 -- a list of prepared parts is within the columns where each is
@@ -83,6 +88,15 @@ and-ready cells parts = fold-p-And Bool (ready_node_holds cells) parts ∙ list_
 pub or-ready : (cells : List Cell) (parts : List ReadyPred) → ready_holds cells (ready.Or parts) ≡ list_any (ready_holds cells) parts
 unfolding ready_holds
 or-ready cells parts = fold-p-Or Bool (ready_node_holds cells) parts ∙ list_any-map (λ part. part) (ready_holds cells) parts
+
+-- and takes memory where one of them does
+pub and-ready-memory : (parts : List ReadyPred) → ready_pred_takes_memory (ready.And parts) ≡ list_any ready_pred_takes_memory parts
+unfolding ready_pred_takes_memory
+and-ready-memory parts = fold-p-And Bool ready_node_takes_memory parts ∙ list_any-map (λ part. part) ready_pred_takes_memory parts
+
+pub or-ready-memory : (parts : List ReadyPred) → ready_pred_takes_memory (ready.Or parts) ≡ list_any ready_pred_takes_memory parts
+unfolding ready_pred_takes_memory
+or-ready-memory parts = fold-p-Or Bool ready_node_takes_memory parts ∙ list_any-map (λ part. part) ready_pred_takes_memory parts
 
 -- the other nodes
 pub cmp-within : (columns : ℕ) (place : Option ℕ) (how : Rel) (to : Cell) → is_pred_within columns (ready.Cmp place how to) ≡ is_place_within columns place
@@ -117,7 +131,15 @@ pub not-ready : (cells : List Cell) (of : ReadyPred) → ready_holds cells (read
 unfolding ready_holds
 not-ready cells = fold-p-Not Bool (ready_node_holds cells)
 
-pub ruleset nodes = (cmp-within, missing-within, match-within, and-within, or-within, not-within, cmp-ready, missing-ready, match-ready, and-ready, or-ready, not-ready)
+pub match-memory : (place : Option ℕ) (test : ReadyTest) → ready_pred_takes_memory (ready.Match place test) ≡ ready_takes_memory test
+unfolding ready_pred_takes_memory
+match-memory = fold-p-Match Bool ready_node_takes_memory
+
+pub not-memory : (of : ReadyPred) → ready_pred_takes_memory (ready.Not of) ≡ ready_pred_takes_memory of
+unfolding ready_pred_takes_memory
+not-memory = fold-p-Not Bool ready_node_takes_memory
+
+pub ruleset nodes = (and-ready-memory, or-ready-memory, match-memory, not-memory, cmp-within, missing-within, match-within, and-within, or-within, not-within, cmp-ready, missing-ready, match-ready, and-ready, or-ready, not-ready)
 
 module _ (columns : Columns) (preds : List Pred) (made : List ReadyPred) (are : AreReadyPreds columns preds made) where
   pub ready-and : IsReadyPred columns (tree.And preds) (ready.And made)
@@ -125,6 +147,7 @@ module _ (columns : Columns) (preds : List Pred) (made : List ReadyPred) (are : 
     within = and-within (length columns) made ∙ are.within;
     same = λ cells. and-ready cells made ∙ (sym (list_all-map (λ b. b) (ready_holds cells) made)
         ∙ (ap (list_all (λ b. b)) (are.same cells) ∙ (list_all-map (λ b. b) (holds columns cells) preds ∙ sym (and-holds columns cells preds))));
+    memory = and-ready-memory made ∙ (are.memory ∙ sym (and-memory preds));
   }
 
   pub ready-or : IsReadyPred columns (tree.Or preds) (ready.Or made)
@@ -132,6 +155,7 @@ module _ (columns : Columns) (preds : List Pred) (made : List ReadyPred) (are : 
     within = or-within (length columns) made ∙ are.within;
     same = λ cells. or-ready cells made ∙ (sym (list_any-map (λ b. b) (ready_holds cells) made)
         ∙ (ap (list_any (λ b. b)) (are.same cells) ∙ (list_any-map (λ b. b) (holds columns cells) preds ∙ sym (or-holds columns cells preds))));
+    memory = or-ready-memory made ∙ (are.memory ∙ sym (or-memory preds));
   }
 
   -- one more of both
@@ -140,4 +164,6 @@ module _ (columns : Columns) (preds : List Pred) (made : List ReadyPred) (are : 
     within = list_all-append (is_pred_within (length columns)) made (one ∷ []) ∙ rw (are.within, is.within) refl;
     same = λ cells. map-append (ready_holds cells) made (one ∷ [])
         ∙ rw (are.same cells, is.same cells) (sym (map-append (holds columns cells) preds (pred ∷ [])));
+    memory = list_any-append ready_pred_takes_memory made (one ∷ [])
+        ∙ rw (are.memory, is.memory) (sym (list_any-append pred_takes_memory preds (pred ∷ [])));
   }

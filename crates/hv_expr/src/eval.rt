@@ -1,13 +1,14 @@
 //! The values of trees over a row of a table, with the columns found by name each time. Over many rows `ReadyPred`
 //! and `ReadyExpr` find them once. The definitions are `holds` (specs/Holds.antt) and `val` (specs/Values.antt).
 
-ghost use Rattle.std.specs.Prelude.{◌≡◌, true, Some, List, map, option_map, IfOk};
+ghost use Rattle.std.specs.Prelude.{◌≡◌, true, Some, List, map, option_map, IfOk, MatchResult};
 ghost use Rattle.std.specs.List.{list_all, list_any};
 ghost use Rattle.hv_value.specs.Cells.{cell_lent};
 ghost use Rattle.hv_value.specs.Rows.{Row};
 ghost use Rattle.hv_value.specs.Table.{row_from};
 ghost use Rattle.hv_expr.specs.Checks.{has_fit_factors};
 ghost use Rattle.hv_expr.specs.Holds.{cell_meets, holds};
+ghost use Rattle.hv_expr.specs.Memory.{pred_takes_memory, test_takes_memory};
 ghost use Rattle.hv_expr.specs.Values.{cell_named, val};
 
 use crate::cells::{
@@ -49,12 +50,14 @@ impl Expr {
 }
 
 impl Pred {
-    /// Whether the predicate holds of a row that is there. A column that isn't there counts as missing.
+    /// Whether the predicate holds of a row that is there. A column that isn't there counts as missing. It takes memory
+    /// only where a test looks for a piece of a folded text.
     #[cycle(eval)]
-    #[tactic(auto, using(crate::proofs::Folds::folds), unfolding(crate::specs::Holds::holds))]
+    #[tactic(auto, using(crate::proofs::Folds::folds), unfolding(crate::specs::Holds::holds, crate::specs::Memory::pred_takes_memory))]
     pub fn eval<T: Table>(&self, alloc: Global, table: &T, row: u32) -> Mem<bool>
         requires row_there { option_map (λ found. found.number) (row_from row (T.rows table.now)) ≡ Some row }
-        ensures { (found : Row) → row_from row (T.rows table.now) ≡ Some found → IfOk result (λ yes. yes ≡ holds (T.columns table.now) found.cells self.now) }
+        ensures { (found : Row) → row_from row (T.rows table.now) ≡ Some found
+            → MatchResult result (λ yes. yes ≡ holds (T.columns table.now) found.cells self.now) (λ _. pred_takes_memory self.now ≡ true) }
     {
         match self {
             Pred::Cmp { col, how, to } => {
@@ -74,7 +77,8 @@ impl Pred {
 #[cycle(eval)]
 fn all_hold<T: Table>(alloc: Global, parts: &[Pred], table: &T, row: u32) -> Mem<bool>
     requires row_there { option_map (λ found. found.number) (row_from row (T.rows table.now)) ≡ Some row }
-    ensures { (found : Row) → row_from row (T.rows table.now) ≡ Some found → IfOk result (λ yes. yes ≡ list_all (holds (T.columns table.now) found.cells) parts.now) }
+    ensures { (found : Row) → row_from row (T.rows table.now) ≡ Some found
+        → MatchResult result (λ yes. yes ≡ list_all (holds (T.columns table.now) found.cells) parts.now) (λ _. list_any pred_takes_memory parts.now ≡ true) }
 {
     for part in parts {
         if !part.eval(alloc, table, row)? {
@@ -87,7 +91,8 @@ fn all_hold<T: Table>(alloc: Global, parts: &[Pred], table: &T, row: u32) -> Mem
 #[cycle(eval)]
 fn one_holds<T: Table>(alloc: Global, parts: &[Pred], table: &T, row: u32) -> Mem<bool>
     requires row_there { option_map (λ found. found.number) (row_from row (T.rows table.now)) ≡ Some row }
-    ensures { (found : Row) → row_from row (T.rows table.now) ≡ Some found → IfOk result (λ yes. yes ≡ list_any (holds (T.columns table.now) found.cells) parts.now) }
+    ensures { (found : Row) → row_from row (T.rows table.now) ≡ Some found
+        → MatchResult result (λ yes. yes ≡ list_any (holds (T.columns table.now) found.cells) parts.now) (λ _. list_any pred_takes_memory parts.now ≡ true) }
 {
     for part in parts {
         if part.eval(alloc, table, row)? {
@@ -110,7 +115,7 @@ fn cell_named<'t, T: Table>(table: &'t T, row: u32, name: &str) -> CellRef<'t>
 
 /// Whether a cell is a text that meets a test.
 fn cell_meets(alloc: Global, test: &TextTest, cell: CellRef<'_>) -> Mem<bool>
-    ensures { IfOk result (λ yes. yes ≡ cell_meets test.now (cell_lent cell.entry)) }
+    ensures { MatchResult result (λ yes. yes ≡ cell_meets test.now (cell_lent cell.entry)) (λ _. test_takes_memory test.now ≡ true) }
 {
     match cell {
         CellRef::Text(text) => test.meets(alloc, text),

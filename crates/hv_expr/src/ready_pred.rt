@@ -1,14 +1,15 @@
 //! Predicates that are prepared for many rows: each column's place is found once, and each folded text is folded
 //! once. The definition is `IsReadyPred` (specs/Ready.antt).
 
-ghost use Rattle.std.specs.Prelude.{◌≡◌, length, true, Some, option_map, IfOk};
+ghost use Rattle.std.specs.Prelude.{◌≡◌, length, true, Some, option_map, IfOk, MatchResult};
 ghost use Rattle.std.specs.List.{list_all, list_any};
 ghost use Rattle.hv_value.specs.Cells.{cell_lent};
 ghost use Rattle.hv_value.specs.Rows.{Row};
 ghost use Rattle.hv_value.specs.Table.{row_from};
 ghost use Rattle.hv_expr.specs.declared.pred.Pred.{Pred};
 ghost use Rattle.hv_expr.specs.Holds.{holds};
-ghost use Rattle.hv_expr.specs.Ready.{AreReadyPreds, IsReadyPred, is_pred_within, ready_cell_meets, ready_holds};
+ghost use Rattle.hv_expr.specs.Memory.{pred_takes_memory};
+ghost use Rattle.hv_expr.specs.Ready.{AreReadyPreds, IsReadyPred, is_pred_within, ready_cell_meets, ready_holds, ready_pred_takes_memory, ready_takes_memory};
 ghost use Rattle.hv_expr.specs.Values.{cell_at_place};
 
 use crate::cells::{cell_at_place, is_missing, is_related};
@@ -72,13 +73,13 @@ impl ReadyPred {
     }
 
     /// Whether the predicate that was prepared holds of a row that is there, in a table of the schema. It takes memory
-    /// only where a test folds.
+    /// only where a test looks for a piece of a folded text.
     #[inline]
     pub fn eval<T: Table>(&self, alloc: Global, table: &T, row: u32) -> Mem<bool>
         requires row_there { option_map (λ found. found.number) (row_from row (T.rows table.now)) ≡ Some row }
         requires within { is_pred_within (length (T.columns table.now)) self.now ≡ true }
         ensures { (pred : Pred) (found : Row) → IsReadyPred (T.columns table.now) pred self.now → row_from row (T.rows table.now) ≡ Some found
-            → IfOk result (λ yes. yes ≡ holds (T.columns table.now) found.cells pred) }
+            → MatchResult result (λ yes. yes ≡ holds (T.columns table.now) found.cells pred) (λ _. pred_takes_memory pred ≡ true) }
     {
         self.decide_soon(alloc, table, row)
     }
@@ -89,7 +90,8 @@ impl ReadyPred {
     fn decide_soon<T: Table>(&self, alloc: Global, table: &T, row: u32) -> Mem<bool>
         requires row_there { option_map (λ found. found.number) (row_from row (T.rows table.now)) ≡ Some row }
         requires within { is_pred_within (length (T.columns table.now)) self.now ≡ true }
-        ensures { (found : Row) → row_from row (T.rows table.now) ≡ Some found → IfOk result (λ yes. yes ≡ ready_holds found.cells self.now) }
+        ensures { (found : Row) → row_from row (T.rows table.now) ≡ Some found
+            → MatchResult result (λ yes. yes ≡ ready_holds found.cells self.now) (λ _. ready_pred_takes_memory self.now ≡ true) }
     {
         if let ReadyPred::Cmp { place, how, to } = self {
             return Ok(is_related(*how, cell_at_place(table, row, *place), to));
@@ -103,7 +105,8 @@ impl ReadyPred {
     fn decide<T: Table>(&self, alloc: Global, table: &T, row: u32) -> Mem<bool>
         requires row_there { option_map (λ found. found.number) (row_from row (T.rows table.now)) ≡ Some row }
         requires within { is_pred_within (length (T.columns table.now)) self.now ≡ true }
-        ensures { (found : Row) → row_from row (T.rows table.now) ≡ Some found → IfOk result (λ yes. yes ≡ ready_holds found.cells self.now) }
+        ensures { (found : Row) → row_from row (T.rows table.now) ≡ Some found
+            → MatchResult result (λ yes. yes ≡ ready_holds found.cells self.now) (λ _. ready_pred_takes_memory self.now ≡ true) }
     {
         match self {
             ReadyPred::Cmp { place, how, to } => {
@@ -135,7 +138,8 @@ fn all_of(alloc: Global, parts: &[Pred], schema: &Schema) -> Mem<Items<ReadyPred
 fn all_hold<T: Table>(alloc: Global, parts: &[ReadyPred], table: &T, row: u32) -> Mem<bool>
     requires row_there { option_map (λ found. found.number) (row_from row (T.rows table.now)) ≡ Some row }
     requires within { list_all (is_pred_within (length (T.columns table.now))) parts.now ≡ true }
-    ensures { (found : Row) → row_from row (T.rows table.now) ≡ Some found → IfOk result (λ yes. yes ≡ list_all (ready_holds found.cells) parts.now) }
+    ensures { (found : Row) → row_from row (T.rows table.now) ≡ Some found
+        → MatchResult result (λ yes. yes ≡ list_all (ready_holds found.cells) parts.now) (λ _. list_any ready_pred_takes_memory parts.now ≡ true) }
 {
     for part in parts {
         if !part.decide(alloc, table, row)? {
@@ -149,7 +153,8 @@ fn all_hold<T: Table>(alloc: Global, parts: &[ReadyPred], table: &T, row: u32) -
 fn one_holds<T: Table>(alloc: Global, parts: &[ReadyPred], table: &T, row: u32) -> Mem<bool>
     requires row_there { option_map (λ found. found.number) (row_from row (T.rows table.now)) ≡ Some row }
     requires within { list_all (is_pred_within (length (T.columns table.now))) parts.now ≡ true }
-    ensures { (found : Row) → row_from row (T.rows table.now) ≡ Some found → IfOk result (λ yes. yes ≡ list_any (ready_holds found.cells) parts.now) }
+    ensures { (found : Row) → row_from row (T.rows table.now) ≡ Some found
+        → MatchResult result (λ yes. yes ≡ list_any (ready_holds found.cells) parts.now) (λ _. list_any ready_pred_takes_memory parts.now ≡ true) }
 {
     for part in parts {
         if part.decide(alloc, table, row)? {
@@ -161,7 +166,7 @@ fn one_holds<T: Table>(alloc: Global, parts: &[ReadyPred], table: &T, row: u32) 
 
 /// Whether a cell is a text that meets a prepared test.
 fn cell_meets(alloc: Global, test: &ReadyTest, cell: CellRef<'_>) -> Mem<bool>
-    ensures { IfOk result (λ yes. yes ≡ ready_cell_meets test.now (cell_lent cell.entry)) }
+    ensures { MatchResult result (λ yes. yes ≡ ready_cell_meets test.now (cell_lent cell.entry)) (λ _. ready_takes_memory test.now ≡ true) }
 {
     match cell {
         CellRef::Text(text) => test.decide(alloc, text),

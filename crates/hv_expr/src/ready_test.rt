@@ -1,24 +1,25 @@
 //! Tests of a text that are prepared for many texts. The definition is `IsReadyTest` (specs/Ready.antt).
 
-ghost use Rattle.std.specs.Prelude.{◌≡◌, false, IfOk, IsOk, if◌then◌else◌};
-ghost use Rattle.hv_expr.specs.TextTests.{contains, folded, matches, meets};
+ghost use Rattle.std.specs.Prelude.{◌≡◌, bytes_eq, false, true, IfErr, IfOk, IsOk};
+ghost use Rattle.hv_expr.specs.TextTests.{begins_with, contains, meets};
 ghost use Rattle.hv_expr.specs.declared.text_test.TextTest.{TextTest};
-ghost use Rattle.hv_expr.specs.Ready.{IsReadyTest, ready_meets};
+ghost use Rattle.hv_expr.specs.Ready.{IsReadyTest, folded_where, ready_meets, ready_takes_memory};
 
-use crate::text_test::folded;
+use crate::text_test::{equals_folded, folded};
 use crate::{How, TextTest};
 use hv_value::{Mem, Text};
 use memchr::memmem::Finder;
 use std::alloc::Global;
 
-/// A test of a text whose own text is folded already, where it folds.
+/// A test of a text, with what it takes of the test's own text; `fold` says whether texts are folded first.
 #[derive(Drop)]
-pub struct ReadyTest {
-    pub how: How,
-    /// Whether the text that is tested is folded first.
-    pub fold: bool,
-    /// The test's own text, in a search for it that is made once.
-    pub text: Finder<'static>,
+pub enum ReadyTest {
+    /// The text is equal to the test's own, which stands here as it was given: both are folded as they are compared.
+    Equals { fold: bool, own: Text },
+    /// The text has a piece, folded already where the test folds, in a search for it that is made once.
+    Contains { fold: bool, piece: Finder<'static> },
+    /// The text begins with a piece, folded already where the test folds.
+    Begins { fold: bool, piece: Text },
 }
 
 impl ReadyTest {
@@ -26,17 +27,28 @@ impl ReadyTest {
     pub fn of(alloc: Global, test: &TextTest) -> Mem<ReadyTest>
         ensures { IfOk result (λ ready. IsReadyTest test.now ready) }
     {
-        Ok(ReadyTest {
-            how: test.how,
-            fold: test.fold,
-            text: search_for(alloc, ready_text(alloc, test)?)?,
+        let fold = test.fold;
+        Ok(match test.how {
+            How::Equals => ReadyTest::Equals {
+                fold,
+                own: test.text.copy(alloc)?,
+            },
+            How::Contains => ReadyTest::Contains {
+                fold,
+                piece: search_for(alloc, ready_text(alloc, test)?)?,
+            },
+            How::Begins => ReadyTest::Begins {
+                fold,
+                piece: ready_text(alloc, test)?,
+            },
         })
     }
 
-    /// Whether a text meets the test that was prepared. It takes memory only where it folds.
+    /// Whether a text meets the test that was prepared. It takes memory only where the test looks for a piece of a
+    /// folded text.
     pub fn meets(&self, alloc: Global, text: &str) -> Mem<bool>
         ensures value { (test : TextTest) → IsReadyTest test self.now → IfOk result (λ yes. yes ≡ meets test text.now) }
-        ensures always { self.now.fold ≡ false → IsOk result }
+        ensures always { ready_takes_memory self.now ≡ false → IsOk result }
     {
         self.decide(alloc, text)
     }
@@ -44,13 +56,24 @@ impl ReadyTest {
     /// The same by the prepared text.
     pub(crate) fn decide(&self, alloc: Global, text: &str) -> Mem<bool>
         ensures value { IfOk result (λ yes. yes ≡ ready_meets self.now text.now) }
-        ensures always { self.now.fold ≡ false → IsOk result }
+        ensures memory { IfErr result (λ _. ready_takes_memory self.now ≡ true) }
     {
-        if self.fold {
-            let folded = folded(alloc, text)?;
-            Ok(finds(self.how, &self.text, folded.as_str()))
-        } else {
-            Ok(finds(self.how, &self.text, text))
+        match self {
+            ReadyTest::Equals { fold, own } => Ok(equals(*fold, own.as_str(), text)),
+            ReadyTest::Contains { fold, piece } => {
+                if !*fold {
+                    return Ok(contains(piece, text));
+                }
+                let folded = folded(alloc, text)?;
+                Ok(contains(piece, folded.as_str()))
+            }
+            ReadyTest::Begins { fold, piece } => {
+                if !*fold {
+                    return Ok(begins(piece.as_str(), text));
+                }
+                let folded = folded(alloc, text)?;
+                Ok(begins(piece.as_str(), folded.as_str()))
+            }
         }
     }
 }
@@ -62,28 +85,34 @@ fn search_for(alloc: Global, text: Text) -> Mem<Finder<'static>>
     Ok(Finder::new(text.as_str().as_bytes()).into_owned(alloc)?)
 }
 
-/// Whether a text compares so with the one that is searched for, byte for byte.
-fn finds(how: How, search: &Finder<'static>, text: &str) -> bool
-    ensures { result ≡ matches how search.now text.now }
+/// Whether two texts are equal, once both are folded where the test folds.
+fn equals(fold: bool, own: &str, text: &str) -> bool
+    ensures { result ≡ bytes_eq (folded_where fold text.now) (folded_where fold own.now) }
 {
-    let text = text.as_bytes();
-    match how {
-        How::Equals => text == search.needle(),
-        How::Contains => contains(search, text),
-        How::Begins => text.starts_with(search.needle()),
+    if fold {
+        equals_folded(own, text)
+    } else {
+        text == own
     }
 }
 
 /// Whether the text that is searched for stands somewhere in a text.
-fn contains(search: &Finder<'static>, text: &[u8]) -> bool
+fn contains(search: &Finder<'static>, text: &str) -> bool
     ensures { result ≡ contains search.now text.now }
 {
-    search.find(text).is_some()
+    search.find(text.as_bytes()).is_some()
+}
+
+/// Whether a text begins with a piece.
+fn begins(piece: &str, text: &str) -> bool
+    ensures { result ≡ begins_with piece.now text.now }
+{
+    text.as_bytes().starts_with(piece.as_bytes())
 }
 
 /// A test's own text, folded where the test folds.
 fn ready_text(alloc: Global, test: &TextTest) -> Mem<Text>
-    ensures { IfOk result (λ text. text ≡ (if test.now.fold then folded test.now.text else test.now.text)) }
+    ensures { IfOk result (λ text. text ≡ folded_where test.now.fold test.now.text) }
 {
     if test.fold {
         let folded = folded(alloc, test.text.as_str())?;

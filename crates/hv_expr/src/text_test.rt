@@ -1,9 +1,10 @@
 //! Tests of a text. The definition is `meets` (specs/TextTests.antt).
 
-ghost use Rattle.std.specs.Prelude.{◌≡◌, false, IfOk, IsOk, string_bytes};
+ghost use Rattle.std.specs.Prelude.{◌≡◌, bytes_eq, false, IfOk, IsOk, string_bytes};
+ghost use Rattle.hv_expr.specs.Memory.{test_takes_memory};
 ghost use Rattle.hv_expr.specs.TextTests.{contains, folded, matches, meets};
 
-use caseless::default_case_fold_str;
+use caseless::{default_case_fold_str, default_caseless_match_str};
 use hv_value::{Mem, Text};
 use memchr::memmem;
 use std::alloc::Global;
@@ -26,14 +27,17 @@ pub struct TextTest {
 }
 
 impl TextTest {
-    /// Whether a text meets the test. It takes memory only where it folds. Over many texts `ReadyTest` folds the
-    /// test's own text once.
+    /// Whether a text meets the test. It takes memory only where it looks for a piece of a folded text. Over many texts
+    /// `ReadyTest` folds the piece once.
     pub fn meets(&self, alloc: Global, text: &str) -> Mem<bool>
         ensures value { IfOk result (λ yes. yes ≡ meets self.now text.now) }
-        ensures always { self.now.fold ≡ false → IsOk result }
+        ensures always { test_takes_memory self.now ≡ false → IsOk result }
     {
         if !self.fold {
             return Ok(matches(self.how, self.text.as_str(), text));
+        }
+        if let How::Equals = self.how {
+            return Ok(equals_folded(self.text.as_str(), text));
         }
         let piece = folded(alloc, self.text.as_str())?;
         folded_matches(alloc, self.how, piece.as_str(), text)
@@ -49,6 +53,13 @@ impl TextTest {
             text: self.text.copy(alloc)?,
         })
     }
+}
+
+/// Whether two texts are equal once both are folded. They are compared character by character, in no memory.
+pub(crate) fn equals_folded(own: &str, text: &str) -> bool
+    ensures { result ≡ bytes_eq (folded text.now) (folded own.now) }
+{
+    default_caseless_match_str(own, text)
 }
 
 /// The default case folding of a text.
