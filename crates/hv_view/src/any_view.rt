@@ -82,8 +82,16 @@ impl Vizketch for AnyView {
         }
     }
 
+    #[tactic(auto, unfolding(crate::specs::Stands::StandsForAny))]
     fn copy(&self, alloc: Global, s: &AnySummary) -> Mem<AnySummary> {
-        s.copy(alloc)
+        Ok(match (self, s) {
+            (AnyView::Range(view), AnySummary::Range(s)) => AnySummary::Range(view.copy(alloc, s)?),
+            (AnyView::Distinct(view), AnySummary::Distinct(s)) => {
+                AnySummary::Distinct(view.copy(alloc, s)?)
+            }
+            // a summary of another view stands for no rows, and so may what is answered
+            _ => return self.zero(alloc),
+        })
     }
 
     ghost any_order = { StandsForAny-swap };
