@@ -1,7 +1,10 @@
 -- The cells of a column over a list of rows, and of a row of a table.
-use Rattle.std.proofs.Common.{◌≡◌, ◌++◌, ℕ, List, Some, true, length}
+use Rattle.std.proofs.Common.{◌≡◌, ◌<◌, ◌++◌, ◌∙◌, ap, ℕ, List, [], Some, true, get_or, length}
+use Rattle.std.specs.Prelude.{⊤, option_map}
+use Rattle.std.proofs.lemmas.Option.{slice_get-get_or}
 use Rattle.std.proofs.lemmas.List.{length-map, map-append}
 use Rattle.hv_value.specs.declared.cell.Kind.{Kind}
+use Rattle.hv_value.specs.declared.cell.Kind.TheVariants as kind
 use Rattle.hv_value.specs.Cells.{cell_at, is_of_kind}
 use Rattle.hv_value.specs.Rows.{Row}
 use Rattle.hv_value.specs.Schema.{Columns}
@@ -14,9 +17,18 @@ use Rattle.hv_sketch.specs.Columns.{IsColumnOf, TakesCell, TakesColumn}
 pub cells-append : (col : ℕ) (a b : List Row) → cells_in col (a ++ b) ≡ cells_in col a ++ cells_in col b
 cells-append col a b = map-append (λ row. cell_at row.cells col) a b
 
+pub cells-three : (col : ℕ) (a b c : List Row) → cells_in col (a ++ b ++ c) ≡ cells_in col a ++ cells_in col b ++ cells_in col c
+cells-three col a b c = cells-append col (a ++ b) c ∙ ap (λ l. l ++ cells_in col c) (cells-append col a b)
+
 -- there is one for each row
 pub length-cells : (col : ℕ) (rows : List Row) → length (cells_in col rows) ≡ length rows
 length-cells col rows = length-map rows (λ row. cell_at row.cells col)
+
+-- a column that is there is of some kind
+pub any_column : (columns : Columns) (col : ℕ) → col < length columns → TakesColumn (λ kind. ⊤) columns col
+any_column columns col within =
+    let none : List ℕ × Kind = ([], kind.Int) in
+    ((get_or columns col none).1, ap (option_map (λ column. column.1)) (slice_get-get_or columns col none within), tt)
 
 -- the cell of a row that is found is missing or of the column's kind
 pub row_kind : (columns : Columns) (part from col : ℕ) (kind : Kind) (rows : List Row) (found : Row) → IsTable columns part rows

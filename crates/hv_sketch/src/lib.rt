@@ -2,6 +2,7 @@
 #![tactic(auto)]
 
 mod cell_gather;
+mod cell_lists;
 mod columns;
 mod counts;
 mod gather;
@@ -19,6 +20,7 @@ mod tests;
 mod vizketch;
 
 pub use cell_gather::{CellGather, gather_cells};
+pub use cell_lists::copied_cells;
 pub use columns::is_column_of;
 pub use counts::Counts;
 pub use gather::{Gather, gather_rows};
