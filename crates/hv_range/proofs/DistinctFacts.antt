@@ -3,17 +3,18 @@ use Rattle.std.proofs.Common.{◌≡◌, ◌≤◌, ◌+◌, ◌||◌, ℕ, List
 use Rattle.std.specs.List.{insert}
 use Rattle.std.proofs.lemmas.Bool.Decides.{nat_tests}
 use Rattle.std.proofs.lemmas.Bool.{ltb-true, ltb-false, lt-ltb}
-use Rattle.std.proofs.lemmas.List.{length-take, take-take, take_all}
+use Rattle.std.proofs.lemmas.List.{append-nil, length-take, take-take, take_all}
 use Rattle.std.proofs.lemmas.List.Edits.{length-insert}
 use Rattle.hv_value.specs.declared.cell.Cell.{Cell}
-use Rattle.hv_value.specs.Cells.{cell_at}
 use Rattle.hv_value.specs.Order.{compare_cells}
 use Rattle.hv_value.specs.Rows.{Row}
 use Rattle.hv_sketch.specs.Rising.{IsRising, put, put_all, rising}
 use Rattle.hv_sketch.proofs.Least.{joined-longer, least-joined, put-longer, rising-join, rising-more, rising-rises, take-put, take-rises}
 use Rattle.hv_value.specs.CellOrder.{cells_total}
-use Rattle.hv_range.specs.ColumnCells.{is_missing, values_in}
-use Rattle.hv_range.specs.Distinct.{distinct_of, distinct_values, first_of, kept}
+use Rattle.hv_sketch.specs.ColumnCells.{cells_in, is_missing}
+use Rattle.hv_sketch.proofs.ColumnFacts.{cells-append}
+use Rattle.hv_range.specs.Cells.{values_of}
+use Rattle.hv_range.specs.Distinct.{distinct_of, distinct_of_cells, distinct_values, first_of, kept}
 use Rattle.hv_range.specs.DistinctLaws.{kept_joins, values-append}
 use Rattle.hv_range.specs.DistinctSums.{distinct_sum, with_inserted}
 use Rattle.hv_range.specs.declared.distinct_summary.DistinctSummary.{DistinctSummary}
@@ -104,30 +105,39 @@ first_of-joined k s t left right =
         ∙ ap (λ l. nat_lt k (length (put_all compare_cells kept l (take k t)))) (all_few k s e)
         ∙ ap (λ l. nat_lt k (length (put_all compare_cells kept s l))) (all_few k t f)
 
--- the distinct values of joined lists of rows
-pub distinct_of-append : (col k : ℕ) (a b : List Row) → distinct_of col k (a ++ b) ≡ distinct_sum k (distinct_of col k a) (distinct_of col k b)
-distinct_of-append col k a b =
-    let xs = values_in col a in
-    let ys = values_in col b in
+-- the distinct values rise
+pub values-rise : (cells : List Cell) → IsRising compare_cells (distinct_values cells)
+values-rise cells = rising-rises compare_cells kept cells_total kept_joins (values_of cells)
+
+-- and so do the least of them
+pub distinct-rises : (k : ℕ) (cells : List Cell) (s : DistinctSummary) → s ≡ distinct_of_cells k cells → IsRising compare_cells s.values
+distinct-rises k cells s is = rw is (take-rises compare_cells kept cells_total kept_joins k (distinct_values cells) (values-rise cells))
+
+-- the distinct values of joined lists of cells
+distinct-append : (k : ℕ) (a b : List Cell) → distinct_of_cells k (a ++ b) ≡ distinct_sum k (distinct_of_cells k a) (distinct_of_cells k b)
+distinct-append k a b =
     ap (first_of k)
-    (ap (rising compare_cells kept) (values-append col a b) ∙ rising-join compare_cells kept cells_total kept_joins xs ys)
-    ∙ sym (first_of-joined k (distinct_values col a) (distinct_values col b) (rising-rises compare_cells kept cells_total kept_joins xs)
-    (rising-rises compare_cells kept cells_total kept_joins ys))
+    (ap (rising compare_cells kept) (values-append a b) ∙ rising-join compare_cells kept cells_total kept_joins (values_of a) (values_of b))
+    ∙ sym (first_of-joined k (distinct_values a) (distinct_values b) (values-rise a) (values-rise b))
 
--- and of one row more, whose cell isn't missing
-pub distinct_of-more : (col k : ℕ) (rows : List Row) (row : Row) → is_missing (cell_at row.cells col) ≡ false
-    → distinct_of col k (rows ++ row ∷ []) ≡ first_of k (put compare_cells kept (cell_at row.cells col) (distinct_values col rows))
-distinct_of-more col k rows row there =
-    let c : Cell = cell_at row.cells col in
-    let one : values_in col (row ∷ []) ≡ c ∷ [] = rw there refl in
-    ap (λ l. first_of k (rising compare_cells kept l)) (values-append col rows (row ∷ []) ∙ ap (λ l. values_in col rows ++ l) one)
-    ∙ ap (first_of k) (rising-more compare_cells kept cells_total kept_joins (values_in col rows) c)
+-- and of rows
+pub distinct_of-append : (col k : ℕ) (a b : List Row) → distinct_of col k (a ++ b) ≡ distinct_sum k (distinct_of col k a) (distinct_of col k b)
+distinct_of-append col k a b = ap (distinct_of_cells k) (cells-append col a b) ∙ distinct-append k (cells_in col a) (cells_in col b)
 
--- the values rise
-pub distinct_of-rises : (col k : ℕ) (rows : List Row) (s : DistinctSummary) → s ≡ distinct_of col k rows → IsRising compare_cells s.values
-distinct_of-rises col k rows s is =
-    rw is (take-rises compare_cells kept cells_total kept_joins k (distinct_values col rows)
-    (rising-rises compare_cells kept cells_total kept_joins (values_in col rows)))
+-- of one cell more, which isn't missing
+pub distinct-more : (k : ℕ) (cells : List Cell) (c : Cell) → is_missing c ≡ false
+    → distinct_of_cells k (cells ++ c ∷ []) ≡ first_of k (put compare_cells kept c (distinct_values cells))
+distinct-more k cells c there =
+    let one : values_of (c ∷ []) ≡ c ∷ [] = rw there refl in
+    ap (λ l. first_of k (rising compare_cells kept l)) (values-append cells (c ∷ []) ∙ ap (λ l. values_of cells ++ l) one)
+    ∙ ap (first_of k) (rising-more compare_cells kept cells_total kept_joins (values_of cells) c)
+
+-- and of a missing one more
+pub distinct-missing : (k : ℕ) (cells : List Cell) (c : Cell) → is_missing c ≡ true → distinct_of_cells k (cells ++ c ∷ []) ≡ distinct_of_cells k cells
+distinct-missing k cells c missing =
+    let none : values_of (c ∷ []) ≡ [] = rw missing refl in
+    ap (λ l. first_of k (rising compare_cells kept l))
+    (values-append cells (c ∷ []) ∙ ap (λ l. values_of cells ++ l) none ∙ append-nil (values_of cells))
 
 -- a summary with one value more, that it has already, and that is new
 module _ (k : ℕ) (c : Cell) (values : List Cell) (s : DistinctSummary) (is : s ≡ first_of k values) where

@@ -1,4 +1,3 @@
-pub mod CellFacts
 pub mod DistinctFacts
 pub mod NumberFacts
 pub mod RangeFacts

@@ -7,15 +7,14 @@ use Rattle.std.specs.Ordering.{flip_args, int_cmp, is_lt}
 use Rattle.std.proofs.lemmas.Int.{ints}
 use Rattle.hv_value.specs.CellOrder.{compare-days, compare-ints}
 use Rattle.hv_value.specs.Order.{compare_cells}
+use Rattle.hv_value.specs.declared.cell.Cell.{Cell}
 use Rattle.hv_value.specs.declared.cell.Cell.TheVariants as cell
 use Rattle.hv_value.specs.declared.cell.Kind.{Kind}
 use Rattle.hv_value.specs.declared.cell.Kind.TheVariants as kind
 use Rattle.hv_value.specs.Cells.{is_of_kind}
-use Rattle.hv_value.specs.Rows.{Row}
 use Rattle.hv_range.specs.CellLaws.{greater-missing, lesser-missing}
-use Rattle.hv_range.specs.ColumnCells.{cells_in}
 use Rattle.hv_range.specs.Extremes.{greater, lesser, missing_last}
-use Rattle.hv_range.specs.IsRange.{IsRange, TakesNoMemory}
+use Rattle.hv_range.specs.IsRange.{IsCellRange, TakesNoMemory}
 use Rattle.hv_range.specs.NumberRange.{end_cell, end_with, range_kept, with_number}
 use Rattle.hv_range.specs.RangeLaws.{range-same}
 use Rattle.hv_range.specs.RangeSums.{cell_range, range_sum}
@@ -86,9 +85,9 @@ kept-missing k kept =
     (sym (greater-missing (end_cell k kept.count kept.high))) (omega (arith, ints))
 
 -- the ends of a column's range are of its kind
-pub ends_kind : (k : Kind) (col : ℕ) (rows : List Row) (kept : NumberRange) → IsRange k col rows (range_kept k kept)
+pub ends_kind : (k : Kind) (cells : List Cell) (kept : NumberRange) → IsCellRange k cells (range_kept k kept)
     → (is_of_kind k (end_cell k kept.count kept.low) ≡ true) × (is_of_kind k (end_cell k kept.count kept.high) ≡ true)
-ends_kind k col rows kept stands = (
-  rw (ap (λ s. s.least) stands.is) (fold-kind missing_last k cell.Missing (cells_in col rows) refl stands.fit),
-  rw (ap (λ s. s.greatest) stands.is) (fold-kind (flip_args compare_cells) k cell.Missing (cells_in col rows) refl stands.fit),
+ends_kind k cells kept stands = (
+  rw (ap (λ s. s.least) stands.is) (fold-kind missing_last k cell.Missing cells refl stands.fit),
+  rw (ap (λ s. s.greatest) stands.is) (fold-kind (flip_args compare_cells) k cell.Missing cells refl stands.fit),
 )

@@ -12,7 +12,7 @@ use Rattle.hv_value.specs.declared.cell.Cell.{Cell}
 use Rattle.hv_value.specs.declared.cell.Cell.TheVariants as cell
 use Rattle.hv_value.specs.CellOrder.{cells_same, cells_total, then_second}
 use Rattle.hv_value.specs.Order.{compare_cells}
-use Rattle.hv_range.specs.ColumnCells.{is_missing}
+use Rattle.hv_sketch.specs.ColumnCells.{is_missing}
 use Rattle.hv_range.specs.Extremes.{earlier, greater, lesser, missing_last}
 
 pub missing_last_total : IsTotalOrder missing_last
@@ -102,7 +102,7 @@ missing_last-never (cell.Int n) = refl
 missing_last-never (cell.Date day) = refl
 missing_last-never (cell.Text text) = refl
 
-missing-never : (x : Cell) → is_lt (compare_cells x cell.Missing) ≡ false
+pub missing-never : (x : Cell) → is_lt (compare_cells x cell.Missing) ≡ false
 unfolding compare_cells
 missing-never cell.Missing = refl
 missing-never (cell.Int n) = refl

@@ -4,7 +4,7 @@ use Rattle.std.specs.declared.cmp.Ordering.{Ordering}
 use Rattle.std.specs.Ordering.{bool_cmp, flip_args, is_lt, on, then_cmp}
 use Rattle.hv_value.specs.declared.cell.Cell.{Cell}
 use Rattle.hv_value.specs.Order.{compare_cells}
-use Rattle.hv_range.specs.ColumnCells.{is_missing}
+use Rattle.hv_sketch.specs.ColumnCells.{is_missing}
 
 -- the order of cells, but with a missing one behind all others
 abbrev pub missing_last : Cell → Cell → Ordering

@@ -1,5 +1,5 @@
 pub mod CellLaws
-pub mod ColumnCells
+pub mod Cells
 pub mod Distinct
 pub mod DistinctLaws
 pub mod DistinctSums

@@ -5,7 +5,8 @@ use Rattle.hv_value.specs.declared.cell.Kind.{Kind}
 use Rattle.hv_value.specs.declared.cell.Cell.{Cell}
 use Rattle.hv_value.specs.declared.cell.Cell.TheVariants as cell
 use Rattle.hv_value.specs.Cells.{is_of_kind}
-use Rattle.hv_range.specs.ColumnCells.{is_missing, number_of}
+use Rattle.hv_sketch.specs.ColumnCells.{is_missing}
+use Rattle.hv_range.specs.Cells.{number_of}
 use Rattle.hv_range.specs.Extremes.{greater, lesser}
 use Rattle.hv_range.specs.declared.summary.RangeSummary.{RangeSummary}
 

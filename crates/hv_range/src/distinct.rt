@@ -1,13 +1,13 @@
-//! The distinct values of a column as a vizketch: its summary stands for rows where it is what specs/Distinct.antt
-//! says of them.
+//! The distinct values of a column as a vizketch: its summary stands for rows where it is what
+//! specs/Distinct.antt says of them.
 
 ghost use Rattle.std.specs.Prelude.{◌≡◌};
 
 use crate::DistinctSummary;
 use crate::distinct_summary::{add_value, sum};
 use crate::summary::is_missing;
-use hv_sketch::{Gather, Vizketch, gather_rows};
-use hv_value::{Mem, Schema, Table};
+use hv_sketch::{CellGather, Vizketch, gather_cells};
+use hv_value::{CellRef, Mem, Schema, Table};
 use std::alloc::Global;
 
 /// The least different values of one column, at most so many.
@@ -27,28 +27,21 @@ impl Distinct {
     }
 }
 
-impl Gather for Distinct {
-    ghost use Rattle.std.specs.Prelude.{◌<◌, length};
-    ghost use Rattle.hv_range.specs.Distinct.{distinct_of};
+impl CellGather for Distinct {
+    ghost use Rattle.std.specs.Prelude.{⊤};
+    ghost use Rattle.hv_range.specs.Distinct.{distinct_of_cells};
 
-    type Gathered = DistinctSummary;
+    type Kept = DistinctSummary;
 
-    ghost gathers = { λ view part rows summary. summary ≡ distinct_of view.col view.k rows };
+    ghost keeps = { λ view cells summary. summary ≡ distinct_of_cells view.k cells };
 
-    ghost takes = { λ view columns. view.col < length columns };
+    ghost takes = { λ view kind. ⊤ };
 
-    fn start<T: Table>(&self, alloc: Global, _table: &T) -> Mem<DistinctSummary> {
+    fn start(&self, alloc: Global) -> Mem<DistinctSummary> {
         Ok(DistinctSummary::empty(alloc))
     }
 
-    fn add_row<T: Table>(
-        &self,
-        alloc: Global,
-        kept: &mut DistinctSummary,
-        table: &T,
-        row: u32,
-    ) -> Mem<()> {
-        let cell = table.cell(row, self.col);
+    fn add_cell(&self, alloc: Global, kept: &mut DistinctSummary, cell: CellRef<'_>) -> Mem<()> {
         if is_missing(cell) {
             return Ok(());
         }
@@ -77,7 +70,7 @@ impl Vizketch for Distinct {
     }
 
     fn summarize<T: Table>(&self, alloc: Global, table: &T) -> Mem<DistinctSummary> {
-        gather_rows(alloc, self, table)
+        gather_cells(alloc, self, self.col, table)
     }
 
     fn merge_into(&self, alloc: Global, acc: &mut DistinctSummary, d: &DistinctSummary) -> Mem<()> {

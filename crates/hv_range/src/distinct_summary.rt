@@ -10,16 +10,16 @@ ghost use Rattle.hv_sketch.specs.Rising.{IsRising, put, put_all};
 ghost use Rattle.hv_range.specs.Distinct.{first_of, kept};
 ghost use Rattle.hv_range.specs.DistinctSums.{distinct_sum, with_inserted};
 
-use crate::Values;
 use crate::values::{joined, place_of};
-use hv_value::{Cell, CellRef, Mem};
+use hv_sketch::copied_cells;
+use hv_value::{Cell, CellRef, Listed, Mem};
 use std::alloc::Global;
 
 /// The least different values of a column, rising, at most some number of them, and whether there are more.
 #[derive(Drop)]
 pub struct DistinctSummary {
     /// The values, strictly rising, none of them missing.
-    pub values: Values,
+    pub values: Listed<Cell>,
     /// Whether the column has others.
     pub more: bool,
 }
@@ -30,7 +30,7 @@ impl DistinctSummary {
         ensures { result ≡ record { values = []; more = false } }
     {
         DistinctSummary {
-            values: Values::new(alloc),
+            values: Listed::new(alloc),
             more: false,
         }
     }
@@ -40,7 +40,7 @@ impl DistinctSummary {
         ensures { IfOk result (λ s. s ≡ self.now) }
     {
         Ok(DistinctSummary {
-            values: self.values.copy(alloc)?,
+            values: copied_cells(alloc, self.values.as_slice())?,
             more: self.more,
         })
     }
@@ -79,7 +79,7 @@ fn insert_value(
     let k = k as usize;
     let full = summary.values.as_slice().len() == k;
     if place < k {
-        summary.values.insert(alloc, place, cell)?;
+        summary.values.insert(place, Cell::of(alloc, cell)?)?;
         summary.values.truncate(k);
     }
     summary.more = summary.more || full;

@@ -1,10 +1,11 @@
-//! The lesser and the greater of two cells, where a missing one gives way to any other (specs/Extremes.antt).
+//! The lesser and the greater of two cells, where a missing one gives way to any other
+//! (specs/Extremes.antt).
 
-ghost use Rattle.std.specs.Prelude.{◌≡◌, ◌&&◌, not, false, IsOk, IfOk, IsTrue, OnOk};
+ghost use Rattle.std.specs.Prelude.{◌≡◌, false, IsOk, IfOk, OnOk};
 ghost use Rattle.std.specs.Ordering.{int_cmp, is_lt};
 ghost use Rattle.hv_value.specs.Cells.{cell_lent};
 ghost use Rattle.hv_value.specs.Order.{compare_cells};
-ghost use Rattle.hv_range.specs.ColumnCells.{is_text};
+ghost use Rattle.hv_range.specs.Cells.{is_text};
 ghost use Rattle.hv_range.specs.Extremes.{greater, lesser, missing_last};
 
 use hv_value::{Cell, CellRef, Mem, compare};
@@ -34,29 +35,9 @@ fn is_lower(cell: CellRef<'_>, least: CellRef<'_>) -> bool
 fn is_higher(cell: CellRef<'_>, greatest: CellRef<'_>) -> bool
     ensures { result ≡ is_lt (compare_cells (cell_lent greatest.entry) (cell_lent cell.entry)) }
 {
-    compare(greatest, cell).is_lt()
-}
-
-/// Whether a number is neither below the one nor above the other.
-fn lies(low: i64, n: i64, high: i64) -> bool
-    ensures { result ≡ (not (is_lt (int_cmp n low)) && not (is_lt (int_cmp high n))) }
-{
-    !in_order(n, low).is_lt() && !in_order(high, n).is_lt()
-}
-
-/// Whether a cell is known to be no new least and no new greatest, by numbers alone: a missing one is none, and a
-/// whole number or a day between the two. No is no answer.
-fn is_between(cell: CellRef<'_>, least: &Cell, greatest: &Cell) -> bool
-    ensures low { IsTrue result → lesser least.now (cell_lent cell.entry) ≡ least.now }
-    ensures high { IsTrue result → greater greatest.now (cell_lent cell.entry) ≡ greatest.now }
-{
-    match (cell, least, greatest) {
-        (CellRef::Missing, _, _) => true,
-        (CellRef::Int(n), Cell::Int(low), Cell::Int(high)) => lies(*low, n, *high),
-        (CellRef::Date(n), Cell::Date(low), Cell::Date(high)) => {
-            lies(i64::from(*low), i64::from(n), i64::from(*high))
-        }
-        _ => false,
+    match cell {
+        CellRef::Missing => false,
+        _ => compare(greatest, cell).is_lt(),
     }
 }
 
@@ -71,9 +52,6 @@ pub(crate) fn widen(
     ensures low { OnOk result (least.new ≡ lesser least.old (cell_lent cell.entry)) }
     ensures high { OnOk result (greatest.new ≡ greater greatest.old (cell_lent cell.entry)) }
 {
-    if is_between(cell, least, greatest) {
-        return Ok(());
-    }
     lower(alloc, least, cell)?;
     raise(alloc, greatest, cell)
 }

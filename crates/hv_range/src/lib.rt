@@ -16,4 +16,3 @@ pub use distinct::Distinct;
 pub use distinct_summary::DistinctSummary;
 pub use range::Range;
 pub use summary::RangeSummary;
-pub use values::Values;

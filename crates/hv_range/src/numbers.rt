@@ -5,7 +5,7 @@ ghost use Rattle.std.specs.Prelude.{◌≡◌, ◌+◌, ◌<◌, ◌^◌, ◌+�
 ghost use Rattle.std.specs.Int.{w64, w128};
 ghost use Rattle.std.specs.Ordering.{int_cmp, is_lt};
 ghost use Rattle.hv_value.specs.Cells.{cell_lent, is_of_kind};
-ghost use Rattle.hv_range.specs.ColumnCells.{number_of};
+ghost use Rattle.hv_range.specs.Cells.{number_of};
 ghost use Rattle.hv_range.specs.IsRange.{TakesNoMemory};
 ghost use Rattle.hv_range.specs.NumberRange.{end_cell, end_with, number_cell, range_kept, with_number};
 ghost use Rattle.hv_range.specs.RangeSums.{CanAdd, cell_range, empty_range, range_sum};

@@ -1,4 +1,5 @@
-//! The range of a column as a vizketch. Its summary stands for rows where it is their range (specs/IsRange.antt).
+//! The range of a column as a vizketch. Its summary stands for rows where it is their range
+//! (specs/IsRange.antt).
 
 ghost use Rattle.std.specs.Prelude.{◌≡◌, IfOk};
 ghost use Rattle.hv_sketch.specs.Columns.{IsColumnOf};
@@ -7,8 +8,8 @@ ghost use Rattle.hv_range.specs.IsRange.{IsRange, TakesNoMemory};
 use crate::RangeSummary;
 use crate::numbers::NumberRange;
 use crate::summary::{add_cell, sum};
-use hv_sketch::{Gather, Vizketch, gather_rows, is_column_of};
-use hv_value::{Kind, Mem, Schema, Table};
+use hv_sketch::{CellGather, Vizketch, gather_cells, is_column_of};
+use hv_value::{CellRef, Kind, Mem, Schema, Table};
 use std::alloc::Global;
 
 /// The range of one column.
@@ -33,72 +34,56 @@ impl Range {
         requires free { TakesNoMemory self.now.kind }
         ensures { IfOk result (λ s. IsRange self.now.kind self.now.col (T.rows table.now) s) }
     {
-        let view = ByNumbers {
-            col: self.col,
-            kind: self.kind,
-        };
-        Ok(gather_rows(alloc, &view, table)?.summary(self.kind))
+        let view = ByNumbers { kind: self.kind };
+        Ok(gather_cells(alloc, &view, self.col, table)?.summary(self.kind))
     }
 }
 
-/// The range of one column of whole numbers or of days, gathered by its numbers alone.
+/// The range of a column of whole numbers or of days, gathered by its numbers alone.
 #[derive(Clone, Copy)]
 struct ByNumbers {
-    col: u32,
     kind: Kind,
 }
 
-impl Gather for ByNumbers {
-    ghost use Rattle.hv_sketch.specs.Columns.{IsColumnOf};
-    ghost use Rattle.hv_range.specs.IsRange.{IsRange, TakesNoMemory};
+impl CellGather for ByNumbers {
+    ghost use Rattle.std.specs.Prelude.{◌≡◌};
+    ghost use Rattle.hv_range.specs.IsRange.{IsCellRange, TakesNoMemory};
     ghost use Rattle.hv_range.specs.NumberRange.{range_kept};
 
-    type Gathered = NumberRange;
+    type Kept = NumberRange;
 
-    ghost gathers = { λ view part rows kept. IsRange view.kind view.col rows (range_kept view.kind kept) };
+    ghost keeps = { λ view cells kept. IsCellRange view.kind cells (range_kept view.kind kept) };
 
-    ghost takes = { λ view columns. IsColumnOf columns view.col view.kind × TakesNoMemory view.kind };
+    ghost takes = { λ view kind. (kind ≡ view.kind) × TakesNoMemory view.kind };
 
-    fn start<T: Table>(&self, _alloc: Global, _table: &T) -> Mem<NumberRange> {
+    fn start(&self, _alloc: Global) -> Mem<NumberRange> {
         Ok(NumberRange::empty())
     }
 
     #[inline(always)]
-    fn add_row<T: Table>(
-        &self,
-        _alloc: Global,
-        kept: &mut NumberRange,
-        table: &T,
-        row: u32,
-    ) -> Mem<()> {
-        kept.add_cell(table.cell(row, self.col));
+    fn add_cell(&self, _alloc: Global, kept: &mut NumberRange, cell: CellRef<'_>) -> Mem<()> {
+        kept.add_cell(cell);
         Ok(())
     }
 }
 
-impl Gather for Range {
-    ghost use Rattle.hv_sketch.specs.Columns.{IsColumnOf};
-    ghost use Rattle.hv_range.specs.IsRange.{IsRange};
+impl CellGather for Range {
+    ghost use Rattle.std.specs.Prelude.{◌≡◌};
+    ghost use Rattle.hv_range.specs.IsRange.{IsCellRange};
 
-    type Gathered = RangeSummary;
+    type Kept = RangeSummary;
 
-    ghost gathers = { λ view part rows summary. IsRange view.kind view.col rows summary };
+    ghost keeps = { λ view cells summary. IsCellRange view.kind cells summary };
 
-    ghost takes = { λ view columns. IsColumnOf columns view.col view.kind };
+    ghost takes = { λ view kind. kind ≡ view.kind };
 
-    fn start<T: Table>(&self, _alloc: Global, _table: &T) -> Mem<RangeSummary> {
+    fn start(&self, _alloc: Global) -> Mem<RangeSummary> {
         Ok(RangeSummary::empty())
     }
 
     #[inline(always)]
-    fn add_row<T: Table>(
-        &self,
-        alloc: Global,
-        kept: &mut RangeSummary,
-        table: &T,
-        row: u32,
-    ) -> Mem<()> {
-        add_cell(alloc, kept, table.cell(row, self.col))
+    fn add_cell(&self, alloc: Global, kept: &mut RangeSummary, cell: CellRef<'_>) -> Mem<()> {
+        add_cell(alloc, kept, cell)
     }
 }
 
@@ -125,7 +110,7 @@ impl Vizketch for Range {
 
     fn summarize<T: Table>(&self, alloc: Global, table: &T) -> Mem<RangeSummary> {
         match self.kind {
-            Kind::Text => gather_rows(alloc, self, table),
+            Kind::Text => gather_cells(alloc, self, self.col, table),
             Kind::Int | Kind::Date => self.summary_by_numbers(alloc, table),
         }
     }

@@ -5,7 +5,8 @@ ghost use Rattle.std.specs.Prelude.{◌≡◌, ℕ, pos, true, false, Bool, not,
 ghost use Rattle.std.specs.Int.{w64};
 ghost use Rattle.hv_value.specs.declared.cell.Cell.TheVariants as cells;
 ghost use Rattle.hv_value.specs.Cells.{cell_lent};
-ghost use Rattle.hv_range.specs.ColumnCells.{is_missing, is_text, number_of};
+ghost use Rattle.hv_sketch.specs.ColumnCells.{is_missing};
+ghost use Rattle.hv_range.specs.Cells.{is_text, number_of};
 ghost use Rattle.hv_range.specs.RangeSums.{CanAdd, cell_range, empty_range, range_sum};
 
 use crate::extremes::{copied, greatest_of, least_of, widen};

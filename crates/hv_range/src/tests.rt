@@ -6,7 +6,7 @@ ghost use Rattle.hv_value.specs.Cells.{cell_lent};
 ghost use Rattle.hv_value.specs.Rows.{int_cell};
 ghost use Rattle.hv_value.specs.declared.cell.Kind.TheVariants as kind;
 
-use crate::{Distinct, DistinctSummary, Range, RangeSummary, Values};
+use crate::{Distinct, DistinctSummary, Range, RangeSummary};
 use hv_sketch::{Vizketch, add_part, order_is_free};
 use hv_value::{Cell, CellRef, Kind, Schema, Table, Text};
 use std::alloc::Global;
@@ -165,9 +165,5 @@ fn the_column_must_be_there(rt: HostRuntime) -> Result<(), Fail> {
         assert_eq!(rt; Distinct::new(col, 3).fits(&schema), want, "at {col}");
     }
     assert!(rt; !Range::new(0, Kind::Text).fits(&schema));
-    assert_eq!(rt;
-        Values::new(rt.alloc()).copy(rt.alloc())?.as_slice().len(),
-        0
-    );
     Ok(())
 }

@@ -1,7 +1,7 @@
-//! Lists of cells, and rising lists of them: where a cell stands in one, and two joined. Contracts see `Values` as
-//! its list of cells; `put` and `put_all` are those of `hv_sketch` (specs/Rising.antt).
+//! Rising lists of cells: where a cell stands in one, and two joined. `put` and `put_all` are those of
+//! `hv_sketch` (specs/Rising.antt).
 
-ghost use Rattle.std.specs.Prelude.{◌≡◌, ◌≤◌, [], ◌∷◌, ◌++◌, length, take, IfOk, IfErr, IsTrue, OnOk};
+ghost use Rattle.std.specs.Prelude.{◌≡◌, ◌≤◌, length, take, IfOk, IfErr, IsTrue};
 ghost use Rattle.std.specs.List.{insert};
 ghost use Rattle.hv_value.specs.Cells.{cell_lent};
 ghost use Rattle.hv_value.specs.Order.{compare_cells};
@@ -9,92 +9,16 @@ ghost use Rattle.hv_sketch.specs.Rising.{IsRising, put, put_all};
 ghost use Rattle.hv_range.specs.Distinct.{kept};
 
 use hv_sketch::Ranking;
-use hv_value::{Cell, CellRef, Mem, compare};
+use hv_value::{Cell, CellRef, Listed, Mem, compare};
 use std::alloc::Global;
 use std::cmp::Ordering;
-use std::marker::Model;
 
-/// A list of cells.
-#[derive(Drop)]
-pub struct Values {
-    cells: Vec<Cell>,
-}
-
-impl Model for Values {
-    ghost use Rattle.std.specs.Prelude.{List};
-    ghost use Rattle.hv_value.specs.declared.cell.Cell.{Cell};
-
-    ghost Value = { List Cell };
-
-    ghost view = { λ values. values.cells.items };
-}
-
-impl Values {
-    /// A list of no cells.
-    pub fn new(alloc: Global) -> Values
-        ensures { result ≡ [] }
-    {
-        Values {
-            cells: Vec::new(alloc),
-        }
-    }
-
-    pub fn as_slice(&self) -> &[Cell]
-        ensures { result.now ≡ self.now }
-    {
-        self.cells.as_slice()
-    }
-
-    /// Adds a copy of a cell at the end.
-    fn push(&mut self, alloc: Global, cell: CellRef<'_>) -> Mem<()>
-        ensures { OnOk result (self.new ≡ self.old ++ cell_lent cell.entry ∷ []) }
-    {
-        let cell = Cell::of(alloc, cell)?;
-        self.cells.push(cell)?;
-        Ok(())
-    }
-
-    /// Puts a copy of a cell at a place from 0, before the cells from there on.
-    pub(crate) fn insert(&mut self, alloc: Global, place: usize, cell: CellRef<'_>) -> Mem<()>
-        requires { place ≤ length self.old }
-        ensures { OnOk result (self.new ≡ insert self.old place (cell_lent cell.entry)) }
-    {
-        let cell = Cell::of(alloc, cell)?;
-        self.cells.insert(place, cell)?;
-        Ok(())
-    }
-
-    /// Keeps the first cells, at most so many.
-    pub(crate) fn truncate(&mut self, len: usize)
-        ensures { self.new ≡ take len self.old }
-    {
-        self.cells.truncate(len);
-    }
-
-    /// An equal list.
-    pub fn copy(&self, alloc: Global) -> Mem<Values>
-        ensures { IfOk result (λ values. values ≡ self.now) }
-    {
-        copied(alloc, self.as_slice())
-    }
-}
-
-/// Copies of cells, as a list.
-fn copied(alloc: Global, cells: &[Cell]) -> Mem<Values>
-    ensures { IfOk result (λ values. values ≡ cells.now) }
-{
-    let mut values = Values::new(alloc);
-    for cell in cells {
-        values.push(alloc, cell.lent())?;
-    }
-    Ok(values)
-}
-
-/// The place of a cell in a rising list, or else where it would stand. A cell above all of the list costs one
-/// comparison, since most cells are where a list of the least ones is full.
+/// The place of a cell in a rising list, or else where it would stand. A cell above all of the list costs
+/// one comparison, since most cells are where a list of the least ones is full.
 pub(crate) fn place_of(cells: &[Cell], cell: CellRef<'_>) -> Result<usize, usize>
     requires { IsRising compare_cells cells.now }
-    ensures there { IfOk result (λ _. put compare_cells kept (cell_lent cell.entry) cells.now ≡ cells.now) }
+    ensures there { IfOk result (λ _.
+        put compare_cells kept (cell_lent cell.entry) cells.now ≡ cells.now) }
     ensures within { IfErr result (λ place. place ≤ length cells.now) }
     ensures between { IfErr result (λ place. put compare_cells kept (cell_lent cell.entry) cells.now
         ≡ insert cells.now place (cell_lent cell.entry)) }
@@ -156,11 +80,11 @@ impl Ranking for CellOrder {
 }
 
 /// Two rising lists joined, each cell that is in both once: the least of them, at most so many.
-pub(crate) fn joined(alloc: Global, a: &[Cell], b: &[Cell], most: usize) -> Mem<Values>
+pub(crate) fn joined(alloc: Global, a: &[Cell], b: &[Cell], most: usize) -> Mem<Listed<Cell>>
     requires left { IsRising compare_cells a.now }
     requires right { IsRising compare_cells b.now }
     ensures { IfOk result (λ values. values ≡ take most (put_all compare_cells kept a.now b.now)) }
 {
     let cells = hv_sketch::joined(alloc, &CellOrder, a, b, most)?;
-    Ok(Values { cells })
+    Ok(Listed::from_vec(cells))
 }

@@ -13,8 +13,7 @@ use crate::{Reply, lineage_value, reply_value, write_lineage, write_reply};
 use hv_lineage::{Base, Lineage};
 use hv_member::PartSet;
 use hv_message::Why;
-use hv_range::Values;
-use hv_value::{Catalog, Kind, Memory, Schema, Text};
+use hv_value::{Catalog, Kind, Listed, Memory, Schema, Text};
 use hv_view::Shown;
 use sqlite_items::Items;
 use std::alloc::Global;
@@ -41,7 +40,7 @@ fn replies_that_no_script_reaches_have_their_texts(rt: HostRuntime) -> Result<()
     let alloc = rt.alloc();
     let distinct = Shown::Distinct {
         more: true,
-        values: Values::new(alloc),
+        values: Listed::new(alloc),
     };
     for (reply, text) in [
         (
@@ -138,7 +137,7 @@ fn values_are_those_that_are_written(rt: HostRuntime) -> Result<(), Fail> {
     let alloc = rt.alloc();
     let shown = Shown::Distinct {
         more: false,
-        values: Values::new(alloc),
+        values: Listed::new(alloc),
     };
     let value = shown_value(alloc, &shown)?.to_string(alloc)?;
     assert_eq!(rt; value.as_str(), "{\"more\":false,\"values\":[]}");

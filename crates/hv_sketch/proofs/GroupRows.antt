@@ -1,13 +1,13 @@
 -- The rows of a table that pass a test, and the search for the first of their numbers at or above one.
-use Rattle.std.proofs.Common.{Bor, ◌≡◌, ◌≤◌, ◌<◌, ◌+◌, ◌-◌, ◌⊎◌, inl, inr, [], ◌∷◌, ℕ, zero, suc, List, Bool, Option, Some, None, true, false, cond, refl, sym, ap, subst, ltb, length, get_or, map, arith, ◌∙◌}
+use Rattle.std.proofs.Common.{Bor, ◌≡◌, ◌≤◌, ◌<◌, ◌+◌, ◌-◌, ◌⊎◌, inl, inr, [], ◌∷◌, ℕ, zero, suc, List, Bool, Option, Some, None, true, false, cond, refl, sym, ap, subst, ltb, length, get_or, arith, ◌∙◌}
 use Rattle.std.specs.Prelude.{nat_le, if◌then◌else◌, option_map, slice_get, IfSome, is_some}
 use Rattle.std.specs.Option.{option_copied}
 use Rattle.std.specs.List.{AllByRecursion, filter}
 use Rattle.std.specs.List.Sorted.{IsNonDecreasing, IsPartitionPoint}
-use Rattle.std.proofs.lemmas.Bool.{cond_both, cases_lt, le-leb, lt-leb, le-ltb, lt-ltb, ltb-true, ltb-false}
+use Rattle.std.proofs.lemmas.Bool.{cond_both, le-leb, lt-leb, le-ltb, lt-ltb, ltb-true, ltb-false}
 use Rattle.std.proofs.lemmas.Grind.{get_or_default_zero}
 use Rattle.std.proofs.lemmas.Option.{slice_get_past, slice_get-get_or}
-use Rattle.hv_value.specs.Codes.{HoldCodes, StandAt}
+use Rattle.hv_value.specs.Codes.{HoldCodes}
 use Rattle.hv_value.specs.Rows.{Row}
 use Rattle.hv_value.specs.Schema.{Columns}
 use Rattle.hv_value.specs.Table.{AreRowsFrom, IsTable, first_row, onward, row_from}

@@ -1,14 +1,14 @@
 -- What is kept of the groups of some rows, where a row comes after them and where they are joined with others.
-use Rattle.std.proofs.Common.{◌≡◌, ◌<◌, ◌≤◌, ◌+◌, ◌++◌, ◌∷◌, [], ◌⊎◌, inl, inr, ℕ, zero, suc, List, Option, Some, None, Bool, true, false, cond, refl, sym, ap, subst, length, get_or, set, map, arith, ◌∙◌}
+use Rattle.std.proofs.Common.{◌≡◌, ◌<◌, ◌+◌, ◌++◌, ◌∷◌, [], inl, inr, ℕ, zero, suc, List, Option, Some, Bool, false, cond, refl, sym, ap, subst, length, get_or, set, arith, ◌∙◌}
 use Rattle.std.specs.Prelude.{slice_get}
-use Rattle.std.specs.List.{AllByRecursion, filter}
+use Rattle.std.specs.List.{filter}
 use Rattle.std.proofs.lemmas.Bool.{cases_eq, cond_both, eq-eqb, ne_eqb}
 use Rattle.std.proofs.lemmas.List.{append-nil, get_or-set_other, get_or-set_same, length-set, map-append}
 use Rattle.std.proofs.lemmas.List.Sums.{count_by-le-length, length-filter}
 use Rattle.std.proofs.lemmas.Option.{get_or_from_slice_get, slice_get-get_or, slice_get_within}
 use Rattle.hv_value.specs.Rows.{Row}
 use Rattle.hv_sketch.specs.GroupLaws.{group_rows-join, ungrouped-join}
-use Rattle.hv_sketch.specs.Groups.{AreMade, AreListed, CanSum, IsCopy, IsSum, OfPlace, StandForGroups, group_rows, is_group, numbers_of, ungrouped}
+use Rattle.hv_sketch.specs.Groups.{AreMade, AreListed, CanSum, IsCopy, IsSum, OfPlace, StandForGroups, group_rows, is_group, numbers_of}
 use Rattle.hv_sketch.specs.Merging.{CanMerge, HaveOneTag, IsApart}
 use Rattle.hv_sketch.proofs.GroupRows.{all-picked}
 

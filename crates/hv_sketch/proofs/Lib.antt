@@ -1,5 +1,6 @@
 pub mod AnyOrder
 pub mod Apart
+pub mod ColumnFacts
 pub mod GatherFacts
 pub mod GroupRows
 pub mod GroupSums

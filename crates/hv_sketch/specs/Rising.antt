@@ -1,5 +1,5 @@
 -- Lists that rise strictly in an order, and the rising list of a list's elements.
-use Rattle.std.specs.Prelude.{List, [], ◌∷◌, ◌≡◌}
+use Rattle.std.specs.Prelude.{ℕ, List, [], ◌∷◌, ◌++◌, ◌≡◌, take}
 use Rattle.std.specs.Ordering.{match_ordering}
 use Rattle.std.specs.declared.cmp.Ordering.{Ordering}
 use Rattle.std.specs.declared.cmp.Ordering.TheVariants.{Less, Equal}
@@ -28,6 +28,18 @@ module _ {X : Type 0} (cmp : X → X → Ordering) (join : X → X → X) where
   -- the rising list of a list's elements, those that tie joined
   abbrev pub rising : List X → List X
   rising xs = put_all xs []
+
+  -- the least k of them
+  abbrev pub least : ℕ → List X → List X
+  least k xs = take k (rising xs)
+
+  -- the least of joined lists are the least of the least of both
+  abbrev pub LeastOfPieces : Type 0
+  LeastOfPieces = (k : ℕ) (a b : List X) → least k (a ++ b) ≡ least k (least k a ++ least k b)
+
+  -- and the least of those joined
+  abbrev pub LeastOfJoined : Type 0
+  LeastOfJoined = (k : ℕ) (a b : List X) → least k (a ++ b) ≡ take k (put_all (least k a) (least k b))
 
 -- joining two elements that tie keeps their place in the order, in any order and any grouping
 pub record JoinsTies {X : Type 0} (cmp : X → X → Ordering) (join : X → X → X) : Type 0 where

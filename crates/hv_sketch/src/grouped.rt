@@ -1,7 +1,7 @@
 //! A view of each group of a table's rows.
 
-ghost use Rattle.std.specs.Prelude.{◌≡◌, ℕ, [], length, IfOk};
-ghost use Rattle.hv_sketch.specs.Groups.{AreMade, CanSum, IsCopy, IsSum, OfPlace, StandForGroups, group_rows, numbers_of};
+ghost use Rattle.std.specs.Prelude.{◌≡◌, [], length, IfOk};
+ghost use Rattle.hv_sketch.specs.Groups.{AreCopies, AreMade, AreNumbersOfEach, AreSums, CanSum, CanSumEach, IsSum, StandForEach, StandForGroups};
 
 use crate::group_table::GroupTable;
 use crate::row_lists::Listing;
@@ -18,8 +18,8 @@ pub struct Grouped<G, V> {
     pub inner: V,
 }
 
-/// What a grouped view keeps of some rows: the inner view's summary of each group's, and how many are in no
-/// group. Contracts see it as the two.
+/// What a grouped view keeps of some rows: the inner view's summary of each group's, and how many are in
+/// no group. Contracts see it as the two.
 #[derive(Drop)]
 pub struct GroupedSummary<S> {
     groups: Vec<S>,
@@ -62,10 +62,11 @@ impl<G: Groups, V: Vizketch> Grouped<G, V> {
 impl<G: Groups, V: Vizketch> Vizketch for Grouped<G, V> {
     type Summary = GroupedSummary<V::Summary>;
 
-    ghost stands = { λ view rows s.
-        StandForGroups (G.group_of view.groups) (G.count view.groups) (V.stands view.inner) rows s.0 s.1 };
+    ghost stands = { λ view rows s. StandForGroups
+        (G.group_of view.groups) (G.count view.groups) (V.stands view.inner) rows s.0 s.1 };
 
-    ghost fits_columns = { λ view columns. G.fits_columns view.groups columns × V.fits_columns view.inner columns };
+    ghost fits_columns = { λ view columns.
+        G.fits_columns view.groups columns × V.fits_columns view.inner columns };
 
     fn fits(&self, schema: &Schema) -> bool {
         self.groups.fits(schema) && self.inner.fits(schema)
@@ -78,7 +79,7 @@ impl<G: Groups, V: Vizketch> Vizketch for Grouped<G, V> {
         })
     }
 
-    /// Two passes: one lists the row numbers of each group, the other summarises each group's own rows.
+    /// Two passes: one lists the row numbers of each group, the other summarises each group's rows.
     fn summarize<T: Table>(&self, alloc: Global, table: &T) -> Mem<Self::Summary> {
         let listing = Listing {
             groups: &self.groups,
@@ -108,8 +109,9 @@ impl<G: Groups, V: Vizketch> Vizketch for Grouped<G, V> {
 
     ghost use Rattle.hv_sketch.specs.GroupLaws.{StandForGroups-swap};
 
-    ghost any_order = { λ view a b c s h.
-        StandForGroups-swap (G.group_of view.groups) (G.count view.groups) (V.stands view.inner) (V.any_order view.inner) a b c s.0 s.1 h };
+    ghost any_order = { λ view a b c s h. StandForGroups-swap
+        (G.group_of view.groups) (G.count view.groups) (V.stands view.inner)
+        (V.any_order view.inner) a b c s.0 s.1 h };
 }
 
 /// So many summaries of no rows.
@@ -132,10 +134,10 @@ fn summaries<G: Groups, V: Vizketch, T: Table>(
     lists: &[Listed<u32>],
 ) -> Mem<Vec<V::Summary>>
     requires fit { V.fits_columns view.now (T.columns table.now) }
-    requires listed { AreMade (λ group numbers. numbers ≡ numbers_of (group_rows (G.group_of groups.now) group (T.rows table.now)))
-        (G.count groups.now) lists.now }
-    ensures { IfOk result (λ made. AreMade (λ group s. V.stands view.now (group_rows (G.group_of groups.now) group (T.rows table.now)) s)
-        (G.count groups.now) made.items) }
+    requires listed { AreNumbersOfEach (G.group_of groups.now) (G.count groups.now)
+        (T.rows table.now) lists.now }
+    ensures { IfOk result (λ made. StandForEach (G.group_of groups.now) (G.count groups.now)
+        (V.stands view.now) (T.rows table.now) made.items) }
 {
     let mut made = Vec::new(alloc);
     for group in 0..groups.groups() {
@@ -148,8 +150,7 @@ fn summaries<G: Groups, V: Vizketch, T: Table>(
 
 /// Copies of some summaries.
 fn copies<V: Vizketch>(alloc: Global, view: &V, summaries: &[V::Summary]) -> Mem<Vec<V::Summary>>
-    ensures { IfOk result (λ made. AreMade (λ place t. OfPlace summaries.now place (λ s. IsCopy (V.stands view.now) s t))
-        (length summaries.now) made.items) }
+    ensures { IfOk result (λ made. AreCopies (V.stands view.now) summaries.now made.items) }
 {
     let mut made = Vec::new(alloc);
     for summary in summaries {
@@ -166,9 +167,8 @@ fn sums<V: Vizketch>(
     d: &[V::Summary],
 ) -> Mem<Vec<V::Summary>>
     requires many { length d.now ≡ length acc.now }
-    requires fit { (place : ℕ) → OfPlace acc.now place (λ s. OfPlace d.now place (λ more. CanSum (V.stands view.now) s more)) }
-    ensures { IfOk result (λ made. AreMade (λ place t. OfPlace acc.now place (λ s. OfPlace d.now place (λ more. IsSum (V.stands view.now) s more t)))
-        (length acc.now) made.items) }
+    requires fit { CanSumEach (V.stands view.now) acc.now d.now }
+    ensures { IfOk result (λ made. AreSums (V.stands view.now) acc.now d.now made.items) }
 {
     let mut made = Vec::new(alloc);
     for place in 0..acc.len() {

@@ -1,6 +1,8 @@
 //! Mergeable summaries: the interface of every view, its laws, and one loop over a table's rows.
 #![tactic(auto)]
 
+mod cell_gather;
+mod cell_lists;
 mod columns;
 mod counts;
 mod gather;
@@ -17,6 +19,8 @@ mod sorter;
 mod tests;
 mod vizketch;
 
+pub use cell_gather::{CellGather, gather_cells};
+pub use cell_lists::copied_cells;
 pub use columns::is_column_of;
 pub use counts::Counts;
 pub use gather::{Gather, gather_rows};

@@ -1,4 +1,5 @@
-//! Items in a total order, those that tie joined: two rising lists of them as one, of which the least are kept.
+//! Items in a total order, those that tie joined: two rising lists of them as one, of which the least are
+//! kept.
 
 ghost use Rattle.std.specs.Prelude.{◌≡◌, [], take, IfOk, IfSome, IsNone};
 ghost use Rattle.hv_sketch.specs.Joining.{AreJoinable, IsFirst};
@@ -8,8 +9,8 @@ use hv_value::Mem;
 use std::alloc::Global;
 use std::cmp::Ordering;
 
-/// A total order of items, and one item in place of two that tie. It is an object of its own, and not the item,
-/// since a view's order may have to be known.
+/// A total order of items, and one item in place of two that tie. It is an object of its own, and not the
+/// item, since a view's order may have to be known.
 pub trait Ranking {
     ghost use Rattle.std.specs.Prelude.{⊤};
     ghost use Rattle.std.specs.Cmp.{IsTotalOrder};
@@ -26,7 +27,7 @@ pub trait Ranking {
     // what stands for two that tie
     ghost join: { Self → Self.Item → Self.Item → Self.Item };
 
-    // whether two that tie may be joined, as where their sum fits; a ranking that says nothing joins all
+    // whether two that tie may be joined, as where their sum fits; one that says nothing joins all
     ghost may_join: { Self → Self.Item → Self.Item → Type 0 } = { λ _ _ _. ⊤ };
 
     /// How two items compare.
@@ -50,7 +51,8 @@ pub trait Ranking {
     ghost ties: { (ranking : Self) → JoinsTies (cmp ranking) (join ranking) };
 }
 
-/// Two rising lists joined, items that tie as one: the least of them, at most so many, and no step past them.
+/// Two rising lists joined, items that tie as one: the least of them, at most so many, and no step past
+/// them.
 pub fn joined<R: Ranking>(
     alloc: Global,
     ranking: &R,
@@ -61,7 +63,8 @@ pub fn joined<R: Ranking>(
     requires left { IsRising (R.cmp ranking.now) a.now }
     requires right { IsRising (R.cmp ranking.now) b.now }
     requires joinable { AreJoinable (R.cmp ranking.now) (R.may_join ranking.now) a.now b.now }
-    ensures { IfOk result (λ items. items.items ≡ take most (put_all (R.cmp ranking.now) (R.join ranking.now) a.now b.now)) }
+    ensures { IfOk result (λ items. items.items
+        ≡ take most (put_all (R.cmp ranking.now) (R.join ranking.now) a.now b.now)) }
 {
     let mut items = Vec::new(alloc);
     let (mut left, mut right) = (a, b);
@@ -84,7 +87,7 @@ struct Step<'a, T: Drop> {
     right: &'a [T],
 }
 
-/// The least item of two rising lists, and what is left of both without it. None where both are empty.
+/// The least item of two rising lists, and what is left of both without it; None where both are empty.
 fn first_of<'a, R: Ranking>(
     alloc: Global,
     ranking: &R,
@@ -94,9 +97,11 @@ fn first_of<'a, R: Ranking>(
     requires left { IsRising (R.cmp ranking.now) a.now }
     requires right { IsRising (R.cmp ranking.now) b.now }
     requires joinable { AreJoinable (R.cmp ranking.now) (R.may_join ranking.now) a.now b.now }
-    ensures some { IfOk result (λ found. IfSome found (λ step. IsFirst (R.cmp ranking.now) (R.join ranking.now)
-        (R.may_join ranking.now) a.now b.now step.item step.left.now step.right.now)) }
-    ensures none { IfOk result (λ found. IsNone found → put_all (R.cmp ranking.now) (R.join ranking.now) a.now b.now ≡ []) }
+    ensures some { IfOk result (λ found. IfSome found (λ step. IsFirst
+        (R.cmp ranking.now) (R.join ranking.now) (R.may_join ranking.now) a.now b.now
+        step.item step.left.now step.right.now)) }
+    ensures none { IfOk result (λ found. IsNone found
+        → put_all (R.cmp ranking.now) (R.join ranking.now) a.now b.now ≡ []) }
 {
     let [x, after_x @ ..] = a else {
         let [y, after_y @ ..] = b else {

@@ -7,8 +7,8 @@ ghost use Rattle.hv_value.specs.Rows.{int_cell};
 ghost use Rattle.hv_value.specs.declared.cell.Kind.TheVariants as kind;
 
 use crate::{
-    Counts, Gather, Grouped, Groups, Pair, Sorter, Vizketch, add_part, add_tally, empty_tally,
-    gather_rows, is_column_of, order_is_free, tally,
+    CellGather, Counts, Gather, Grouped, Groups, Pair, Sorter, Vizketch, add_part, add_tally,
+    empty_tally, gather_cells, gather_rows, is_column_of, order_is_free, tally,
 };
 use hv_value::{CellRef, Kind, Mem, Schema, Table, Text};
 use std::alloc::Global;
@@ -71,6 +71,34 @@ impl Vizketch for RowCount {
     }
 
     ghost any_order = { λ view a b c count h. Prim.grind (arith, length-append) };
+}
+
+/// How many cells a column has and how many of them are missing.
+#[derive(Drop)]
+struct Missing;
+
+impl CellGather for Missing {
+    ghost use Rattle.std.specs.Prelude.{◌≡◌, length, ⊤};
+    ghost use Rattle.std.specs.List.{count_by};
+    ghost use Rattle.hv_sketch.specs.ColumnCells.{is_missing};
+
+    type Kept = (u64, u64);
+
+    ghost keeps = { λ view cells kept. (kept.0 ≡ length cells) × (kept.1 ≡ count_by is_missing cells) };
+
+    ghost takes = { λ view kind. ⊤ };
+
+    fn start(&self, _alloc: Global) -> Mem<(u64, u64)> {
+        Ok((0, 0))
+    }
+
+    fn add_cell(&self, _alloc: Global, kept: &mut (u64, u64), cell: CellRef<'_>) -> Mem<()> {
+        kept.0 += 1;
+        if let CellRef::Missing = cell {
+            kept.1 += 1;
+        }
+        Ok(())
+    }
 }
 
 /// A chart of two slots: the cells of a column that are missing, and the others.
@@ -180,6 +208,7 @@ fn counts_add_up(rt: HostRuntime) -> Result<(), Fail> {
     }
     let counts = view.summarize(rt.alloc(), &table)?;
     assert_eq!(rt; counts.as_slice(), [1, 1].as_slice());
+    assert_eq!(rt; gather_cells(rt.alloc(), &Missing, 0, &table)?, (2, 1));
     Ok(())
 }
 

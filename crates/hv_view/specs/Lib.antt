@@ -1,4 +1,5 @@
 pub mod AnyLaws
+pub mod Keys
 pub mod Plans
 pub mod Stands
 pub mod View

@@ -1,15 +1,21 @@
 //! Any view, itself a vizketch: a call is that of the variant.
 
 ghost use Rattle.std.specs.Prelude.{◌≡◌, ◌↔◌, IfOk, IsTrue};
+ghost use Rattle.std.specs.Cmp.{partial_equiv_from_equiv};
+ghost use Rattle.std.proofs.Common.{ap};
+ghost use Rattle.hv_value.specs.Same.{same_by};
+ghost use Rattle.hv_value.specs.SameLaws.{same_by-decides, same_by-equiv};
+ghost use Rattle.hv_view.specs.Keys.{view_writes};
 
 use crate::AnySummary;
 use hv_range::{Distinct, Range};
 use hv_sketch::Vizketch;
 use hv_value::{Mem, Schema, Table};
 use std::alloc::Global;
+use std::hash::{Hash, Hasher};
 
 /// A view, one variant a vizketch.
-#[derive(PartialEq, Eq, Hash, Drop)]
+#[derive(Drop)]
 pub enum AnyView {
     Range(Range),
     Distinct(Distinct),
@@ -30,7 +36,53 @@ impl AnyView {
     pub fn same(&self, other: &AnyView) -> bool
         ensures { IsTrue result ↔ (self.now ≡ other.now) }
     {
-        self == other
+        match (self, other) {
+            (AnyView::Range(view), AnyView::Range(other)) => view == other,
+            (AnyView::Distinct(view), AnyView::Distinct(other)) => view == other,
+            _ => false,
+        }
+    }
+}
+
+/// Two views are equal where they are the same.
+impl PartialEq for AnyView {
+    ghost use Rattle.hv_view.specs.contracts.any_view.AnyView as row;
+
+    ghost eq = { same_by row.the_row.coded };
+
+    ghost laws = { partial_equiv_from_equiv (same_by-equiv row.the_row.coded) };
+
+    fn eq(&self, other: &AnyView) -> bool {
+        self.same(other)
+    }
+}
+
+impl Eq for AnyView {
+    ghost use Rattle.hv_view.specs.contracts.any_view.AnyView as row;
+
+    ghost laws = { same_by-equiv row.the_row.coded };
+}
+
+/// The same views write the same into a hasher.
+impl Hash for AnyView {
+    ghost use Rattle.hv_view.specs.contracts.any_view.AnyView as row;
+
+    ghost hash_input = { view_writes };
+
+    ghost respects_eq = { λ x y e. ap view_writes ((same_by-decides row.the_row.coded x y).0 e) };
+
+    fn hash<H: Hasher>(&self, state: &mut H) {
+        match self {
+            AnyView::Range(view) => {
+                state.write_u8(0);
+                state.write_u32(view.col);
+            }
+            AnyView::Distinct(view) => {
+                state.write_u8(1);
+                state.write_u32(view.col);
+                state.write_u32(view.k);
+            }
+        }
     }
 }
 
@@ -82,8 +134,16 @@ impl Vizketch for AnyView {
         }
     }
 
+    #[tactic(auto, unfolding(crate::specs::Stands::StandsForAny))]
     fn copy(&self, alloc: Global, s: &AnySummary) -> Mem<AnySummary> {
-        s.copy(alloc)
+        Ok(match (self, s) {
+            (AnyView::Range(view), AnySummary::Range(s)) => AnySummary::Range(view.copy(alloc, s)?),
+            (AnyView::Distinct(view), AnySummary::Distinct(s)) => {
+                AnySummary::Distinct(view.copy(alloc, s)?)
+            }
+            // a summary of another view stands for no rows, and so may what is answered
+            _ => return self.zero(alloc),
+        })
     }
 
     ghost any_order = { StandsForAny-swap };

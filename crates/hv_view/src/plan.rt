@@ -1,7 +1,12 @@
 //! Plans: how the value that was asked for comes of views. One view's value may be all, or a second view follows
 //! that depends on it. The definitions are in specs/Plans.antt, one case a plan.
 
-ghost use Rattle.std.specs.Prelude.{◌≡◌, ◌↔◌, List, IfOk, IfSome, IsSome};
+ghost use Rattle.std.specs.Prelude.{◌≡◌, ◌↔◌, List, IfOk, IfSome, IsSome, IsTrue};
+ghost use Rattle.std.specs.Cmp.{partial_equiv_from_equiv};
+ghost use Rattle.std.proofs.Common.{ap};
+ghost use Rattle.hv_value.specs.Same.{same_by};
+ghost use Rattle.hv_value.specs.SameLaws.{same_by-decides, same_by-equiv};
+ghost use Rattle.hv_view.specs.Keys.{plan_writes};
 ghost use Rattle.hv_value.specs.Rows.{Row};
 ghost use Rattle.hv_value.specs.Schema.{Columns};
 ghost use Rattle.hv_view.specs.Plans.{EndsAtFirst, FitsPlan, IsConclusion, IsFirstValue, IsFirstView, IsNext, IsSecondValue, OfPlan, value_next, view_next};
@@ -10,6 +15,7 @@ ghost use Rattle.hv_view.specs.Stands.{FitsAny};
 use crate::{AnyView, Shown};
 use hv_value::{Mem, Schema};
 use std::alloc::Global;
+use std::hash::{Hash, Hasher};
 
 /// How a value is made of views.
 #[derive(Drop)]
@@ -35,6 +41,52 @@ impl Plan {
         Ok(match self {
             Plan::One(view) => Plan::One(view.copied(alloc)?),
         })
+    }
+
+    /// Whether two plans are the same.
+    pub fn same(&self, other: &Plan) -> bool
+        ensures { IsTrue result ↔ (self.now ≡ other.now) }
+    {
+        match (self, other) {
+            (Plan::One(view), Plan::One(other)) => view.same(other),
+        }
+    }
+}
+
+/// Two plans are equal where they are the same.
+impl PartialEq for Plan {
+    ghost use Rattle.hv_view.specs.contracts.plan.Plan as row;
+
+    ghost eq = { same_by row.the_row.coded };
+
+    ghost laws = { partial_equiv_from_equiv (same_by-equiv row.the_row.coded) };
+
+    fn eq(&self, other: &Plan) -> bool {
+        self.same(other)
+    }
+}
+
+impl Eq for Plan {
+    ghost use Rattle.hv_view.specs.contracts.plan.Plan as row;
+
+    ghost laws = { same_by-equiv row.the_row.coded };
+}
+
+/// The same plans write the same into a hasher.
+impl Hash for Plan {
+    ghost use Rattle.hv_view.specs.contracts.plan.Plan as row;
+
+    ghost hash_input = { plan_writes };
+
+    ghost respects_eq = { λ x y e. ap plan_writes ((same_by-decides row.the_row.coded x y).0 e) };
+
+    fn hash<H: Hasher>(&self, state: &mut H) {
+        match self {
+            Plan::One(view) => {
+                state.write_u8(0);
+                view.hash(state);
+            }
+        }
     }
 }
 

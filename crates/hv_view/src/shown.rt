@@ -6,8 +6,8 @@ ghost use Rattle.hv_view.specs.Stands.{StandsForAny};
 ghost use Rattle.hv_view.specs.View.{IsView, sum_of};
 
 use crate::{AnySummary, AnyView};
-use hv_range::Values;
-use hv_value::{Cell, Kind, Mem};
+use hv_sketch::copied_cells;
+use hv_value::{Cell, Kind, Listed, Mem};
 use std::alloc::Global;
 
 /// The value of a view, one variant a view.
@@ -25,7 +25,7 @@ pub enum Shown {
     /// Of distinct values: whether there are more, and the least, rising.
     Distinct {
         more: bool,
-        values: Values,
+        values: Listed<Cell>,
     },
 }
 
@@ -50,7 +50,7 @@ impl Shown {
             },
             Shown::Distinct { more, values } => Shown::Distinct {
                 more: *more,
-                values: values.copy(alloc)?,
+                values: copied_cells(alloc, values.as_slice())?,
             },
         })
     }
@@ -73,7 +73,7 @@ pub fn finish(alloc: Global, view: &AnyView, s: &AnySummary) -> Mem<Shown>
         },
         AnySummary::Distinct(s) => Shown::Distinct {
             more: s.more,
-            values: s.values.copy(alloc)?,
+            values: copied_cells(alloc, s.values.as_slice())?,
         },
     })
 }

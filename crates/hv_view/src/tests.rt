@@ -2,14 +2,15 @@
 //! and on several, are told by the scripts of the folder tests/.
 
 ghost use Rattle.std.specs.Prelude.{◌≡◌, [], ◌∷◌, codes, IfOk};
+ghost use Rattle.hv_view.specs.View.{IsView};
 ghost use Rattle.hv_value.specs.Cells.{cell_lent};
 ghost use Rattle.hv_value.specs.Rows.{int_cell};
 ghost use Rattle.hv_value.specs.declared.cell.Kind.TheVariants as kind;
 
-use crate::{AnyView, Shown, finish};
+use crate::{AnyView, Plan, Second, Shown, conclude, finish, first_view, then};
 use hv_range::{Distinct, Range};
 use hv_sketch::{Vizketch, add_part};
-use hv_value::{Cell, CellRef, Kind, Schema, Table, Text};
+use hv_value::{Cell, CellRef, Kind, Mem, Schema, Table, Text};
 use std::alloc::Global;
 use std::test::Fail;
 
@@ -66,6 +67,13 @@ fn lent(n: Option<i64>) -> CellRef<'static>
     }
 }
 
+fn one_column(alloc: Global) -> Result<Schema, Fail>
+    ensures { IfOk result (λ schema. schema ≡ (codes "x", kind.Int) ∷ []) }
+{
+    let columns = vec![in alloc; (Text::of(alloc, "x")?, Kind::Int)]?;
+    Ok(Schema::new(columns)?)
+}
+
 /// The rows of two numbers in a partition.
 fn two_rows(
     alloc: Global,
@@ -75,9 +83,8 @@ fn two_rows(
 ) -> Result<TwoRows, Fail>
     ensures { IfOk result (λ table. table.part ≡ part) }
 {
-    let columns = vec![in alloc; (Text::of(alloc, "x")?, Kind::Int)]?;
     Ok(TwoRows {
-        schema: Schema::new(columns)?,
+        schema: one_column(alloc)?,
         part,
         first,
         second,
@@ -125,5 +132,37 @@ fn distinct_values_are_shown_and_whether_there_are_more(rt: HostRuntime) -> Resu
         return Err(Fail::from("two values"));
     };
     assert!(rt; more && *least == Cell::Int(-2) && *next == Cell::Int(5));
+    Ok(())
+}
+
+/// The value of a view over no rows.
+fn of_no_rows(alloc: Global, view: &AnyView) -> Mem<Shown>
+    ensures { IfOk result (λ value. IsView view.now [] value) }
+{
+    finish(alloc, view, &view.zero(alloc)?)
+}
+
+/// The value of a plan of one view over no rows.
+fn planned(alloc: Global, schema: &Schema, view: &AnyView) -> Result<Shown, Fail> {
+    if !view.fits(schema) {
+        return Err(Fail::from("the view fits"));
+    }
+    let plan = Plan::One(view.copied(alloc)?).copied(alloc)?;
+    let first = of_no_rows(alloc, &first_view(alloc, &plan, schema)?)?;
+    match then(alloc, &plan, schema, &first)? {
+        Second::Value(value) => Ok(conclude(alloc, &plan, &first, value)?),
+        Second::View(_) => Err(Fail::from("no second view")),
+    }
+}
+
+#[test]
+fn a_plan_of_one_view_has_its_value(rt: HostRuntime) -> Result<(), Fail> {
+    let view = AnyView::Range(Range::new(0, Kind::Int));
+    assert!(rt; view.same(&view.copied(rt.alloc())?));
+    let value = planned(rt.alloc(), &one_column(rt.alloc())?, &view)?.copied(rt.alloc())?;
+    let Shown::Range { count, sum, .. } = value else {
+        return Err(Fail::from("a range"));
+    };
+    assert_eq!(rt; (count, sum), (0, Some(0)));
     Ok(())
 }
