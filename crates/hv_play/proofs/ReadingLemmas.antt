@@ -2,14 +2,15 @@
 use Rattle.std.proofs.Common.{◌≡◌, refl, ℕ, pos, negsuc, List, Bool, true, false, Option, Some, None, Ok, Err}
 use Rattle.std.specs.Prelude.{nat_le, nat_lt, length, if◌then◌else◌, Result, codes}
 use Rattle.serde_json.specs.Data.{Data}
-use Rattle.hv_lineage.specs.Lineages.{TermOver, lineage_columns, filtered, projected, derived, filter_refusal, project_refusal, derive_refusal}
+use Rattle.hv_lineage.specs.Lineages.{TermOver}
+use Rattle.hv_message.specs.declared.asked.Asked.{Asked}
+use Rattle.hv_message.specs.declared.asked.Asked.TheVariants.{Load, Over, Info, View, Cancel, End}
 use Rattle.hv_message.specs.declared.why.Why.{Why}
 use Rattle.hv_message.specs.declared.why.Why.TheVariants as why
 use Rattle.hv_message.specs.Fields.{text_at}
 use Rattle.hv_message.specs.Flaws.{and_then}
-use Rattle.hv_message.specs.Messages.{Known, Meaning, makes, tells, views, cancels, ends, Reading, means, malformed, Asked, load, filter, project, derive, info, view, cancel, end, asked, unless_refused, loaded, made_in, opened_in, object_at, of_known, is_open, cancelled, meaning, id_in, operation, checked, reading_of, with_id, object_of, reading_of_object, reading_of_value, reading}
-use Rattle.hv_message.specs.Trees.{dated_pred}
-use Rattle.hv_message.specs.Views.{viewed}
+use Rattle.hv_message.specs.Messages.{Known, Meaning, makes, tells, views, cancels, ends, Reading, means, malformed, asked, made_in, opened_in, object_at, of_known, is_open, cancelled, meaning, id_in, operation, checked, reading_of, with_id, object_of, reading_of_object, reading_of_value, reading}
+use Rattle.hv_message.specs.Tables.{loaded}
 
 -- what a session may do at once
 abbrev pub IsOpenedOrEnded : Known → Meaning → Type 0
@@ -53,16 +54,14 @@ cancelled_sound k id request true e = e
 cancelled_sound k id request false e = tt
 
 meaning_sound : (k : Known) (id : ℕ) (a : Asked) → is_open id k.requests ≡ false → IsSoundResult k (meaning k id a)
-meaning_sound k id (load table) free = then_each k (made_in k id) (loaded k.tables table) (made_sound k id)
-meaning_sound k id (filter of p) free = of_each k (object_at k.objects of) _ (λ lineage. then_each k (made_in k id) _ (made_sound k id))
-meaning_sound k id (project of cols) free = of_each k (object_at k.objects of) _ (λ lineage. then_each k (made_in k id) _ (made_sound k id))
-meaning_sound k id (derive of name expr) free = of_each k (object_at k.objects of) _ (λ lineage. then_each k (made_in k id) _ (made_sound k id))
-meaning_sound k id (info of) free = of_each k (object_at k.objects of) _ (λ lineage. tt)
-meaning_sound k id (view of v) free =
+meaning_sound k id (Load table) free = then_each k (made_in k id) (loaded k.tables table) (made_sound k id)
+meaning_sound k id (Over of term) free = of_each k (object_at k.objects of) _ (λ lineage. then_each k (made_in k id) _ (made_sound k id))
+meaning_sound k id (Info of) free = of_each k (object_at k.objects of) _ (λ lineage. tt)
+meaning_sound k id (View of v) free =
     of_each k (object_at k.objects of) _ (λ lineage. then_each k (opened_in k id lineage) _ (λ plan. either_result k _ (Ok (views id lineage plan)) (Err why.Full) free tt))
-meaning_sound k id (cancel (pos request)) free = cancelled_sound k id request (is_open request k.requests) refl
-meaning_sound k id (cancel (negsuc request)) free = tt
-meaning_sound k id end free = tt
+meaning_sound k id (Cancel (pos request)) free = cancelled_sound k id request (is_open request k.requests) refl
+meaning_sound k id (Cancel (negsuc request)) free = tt
+meaning_sound k id End free = tt
 
 operation_sound : (k : Known) (id : ℕ) (value : Data) (op : Option (List ℕ)) → is_open id k.requests ≡ false → IsSoundResult k (operation k id value op)
 operation_sound k id value None free = tt

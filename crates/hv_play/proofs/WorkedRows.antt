@@ -39,8 +39,9 @@ use Rattle.hv_member.specs.Sets.{numbers}
 use Rattle.hv_message.specs.declared.why.Why.TheVariants as why
 use Rattle.hv_message.specs.Flaws.{and_then}
 use Rattle.hv_message.specs.Messages.{Known, Reading, makes, views, cancels, means, malformed, opened_in, reading, reading_of, reading_of_value}
-use Rattle.hv_message.specs.Views as asked
-use Rattle.hv_message.specs.Views.{ViewAsked, planned}
+use Rattle.hv_message.specs.declared.asked.ViewAsked.{ViewAsked}
+use Rattle.hv_message.specs.declared.asked.ViewAsked.TheVariants as asked
+use Rattle.hv_message.specs.Views.{planned}
 use Rattle.hv_reply.specs.declared.reply.Reply.{Reply}
 use Rattle.hv_reply.specs.declared.reply.Reply.TheVariants.{Made as Makes, Final, Cancelled, Done, Malformed}
 use Rattle.hv_reply.specs.Values.{shown_data, whole as whole_number}
@@ -139,7 +140,7 @@ load_means = refl
 
 view_means : reading (known [] (session (table ∷ []) [] [])) view_text ≡ means (views 2 table range_plan)
 unfolding serde_json_on_literals reading reading_of_value
-view_means = ap (viewed_by (known [] (session (table ∷ []) [] [])) 2 table (asked.range (codes "x"))) (table_columns columns (codes "x,y\n5,a\n,b\n-2,c" ∷ codes "x,y\n9,d" ∷ []))
+view_means = ap (viewed_by (known [] (session (table ∷ []) [] [])) 2 table (asked.Range (codes "x"))) (table_columns columns (codes "x,y\n5,a\n,b\n-2,c" ∷ codes "x,y\n9,d" ∷ []))
 
 -- before the load there is no object to view
 view_of_none : reading (known [] new_talk) view_text ≡ malformed why.Object (Some 2)

@@ -78,9 +78,11 @@ fn value_of(alloc: Global, plan: &Plan, lineage: &Lineage) -> Mem<Shown>
     requires { FitsPlan plan.now (lineage_columns lineage.now) }
     ensures { IfOk result (λ shown. (told : Told) → IsWhole told lineage.now (λ rows. OfPlan plan.now rows rows shown)) }
 {
-    let view = first_view(alloc, plan, lineage.schema())?;
+    let schema = lineage.schema();
+    let view = first_view(alloc, plan, schema)?;
     let first = shown_of(alloc, &view, lineage)?;
-    match then(alloc, plan, lineage.schema(), &first)? {
+    let next = then(alloc, plan, schema, &first)?;
+    match next {
         Second::Value(value) => Ok(value),
         Second::View(view) => {
             let second = shown_of(alloc, &view, lineage)?;
