@@ -1,3 +1,4 @@
 pub mod TreeLemmas
 pub mod TableLemmas
 pub mod LevelLemmas
+pub mod WordLemmas

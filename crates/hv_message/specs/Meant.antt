@@ -34,6 +34,11 @@ Tells (Ok x) wanted = wanted ≡ Ok x
 Tells (Err (Word word)) wanted = wanted ≡ Err word
 Tells (Err Memory) wanted = Unit {0}
 
+-- what has to be there
+abbrev pub needed : {A : Type 0} → Option A → Result A Refused
+needed None = Err (Word why.Field)
+needed (Some x) = Ok x
+
 -- a field that has to be there is read, or want of memory
 abbrev pub IsField : {A : Type 0} → Result A Refused → Option A → Type 0
 IsField (Ok x) found = found ≡ Some x

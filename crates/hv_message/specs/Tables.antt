@@ -4,7 +4,6 @@ use Rattle.std.specs.List.{list_all}
 use Rattle.serde_json.specs.Data.{Data, Items, no_items, item}
 use Rattle.serde_json.specs.Find.{get, as_str, as_array}
 use Rattle.hv_value.specs.declared.cell.Kind.{Kind}
-use Rattle.hv_value.specs.declared.cell.Kind.TheVariants as kind
 use Rattle.hv_value.specs.declared.catalog.TheConstants.{MAX_PARTITIONS}
 use Rattle.hv_value.specs.Catalog.{Tables, parts_named}
 use Rattle.hv_value.specs.Schema.{Columns, is_schema}
@@ -17,15 +16,8 @@ use Rattle.hv_message.specs.declared.asked.TableAsked.TheVariants.{Inline, Named
 use Rattle.hv_message.specs.declared.why.Why.{Why}
 use Rattle.hv_message.specs.declared.why.Why.TheVariants as why
 use Rattle.hv_message.specs.Flaws.{of_field}
+use Rattle.hv_message.specs.Words.{kind_named}
 use Rattle.hv_message.specs.Fields.{text_at, list_at, texts_at, all_read}
-
--- the kind that a word names
-abbrev pub kind_named : List ℕ → Option Kind
-kind_named word =
-    if bytes_eq word (codes "int") then Some kind.Int
-    else if bytes_eq word (codes "date") then Some kind.Date
-    else if bytes_eq word (codes "text") then Some kind.Text
-    else None
 
 -- a column: a list of just a name and a kind's word
 abbrev pub column_from : Data → Data → Option (List ℕ × Kind)

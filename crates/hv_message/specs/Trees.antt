@@ -10,15 +10,14 @@ use Rattle.hv_expr.specs.declared.pred.Pred.{Pred, fold-Pred}
 use Rattle.hv_expr.specs.declared.pred.Pred.TheOpen.{Pred-F}
 use Rattle.hv_expr.specs.declared.pred.Pred.TheVariants as pred
 use Rattle.hv_expr.specs.declared.pred.Rel.{Rel}
-use Rattle.hv_expr.specs.declared.pred.Rel.TheVariants as rel
 use Rattle.hv_expr.specs.declared.text_test.How.{How}
-use Rattle.hv_expr.specs.declared.text_test.How.TheVariants as how
 use Rattle.hv_expr.specs.declared.text_test.TextTest.{TextTest}
 use Rattle.hv_expr.specs.Checks.{kind_of_column}
 use Rattle.hv_expr.specs.Sizes.{expr_nodes, pred_nodes}
 use Rattle.hv_message.specs.Fields.{integer_at, text_at, bool_at, list_at}
 use Rattle.hv_message.specs.Flaws.{shaped, limited, map_ok, and_then, both, all_of}
 use Rattle.hv_message.specs.Constants.{cell_in, is_short, short_text, dated}
+use Rattle.hv_message.specs.Words.{how_named, rel_named}
 use Rattle.hv_message.specs.declared.flaw.Flaw.{Flaw}
 use Rattle.hv_message.specs.declared.flaw.Flaw.TheVariants.{Field}
 use Rattle.hv_message.specs.declared.limits.TheConstants.{MAX_NODES}
@@ -32,24 +31,6 @@ abbrev pub under : {A : Type 0} → (Data → Result A Flaw) → List ℕ → Da
 under read key value = shaped (get key value) read
 
 -- ---- predicates
-
--- a relation by its word
-abbrev pub rel_named : List ℕ → Option Rel
-rel_named word =
-    if bytes_eq word (codes "lt") then Some rel.Lt
-    else if bytes_eq word (codes "le") then Some rel.Le
-    else if bytes_eq word (codes "eq") then Some rel.Eq
-    else if bytes_eq word (codes "ne") then Some rel.Ne
-    else if bytes_eq word (codes "ge") then Some rel.Ge
-    else if bytes_eq word (codes "gt") then Some rel.Gt
-    else None
-
-abbrev pub how_named : List ℕ → Option How
-how_named word =
-    if bytes_eq word (codes "equals") then Some how.Equals
-    else if bytes_eq word (codes "contains") then Some how.Contains
-    else if bytes_eq word (codes "begins") then Some how.Begins
-    else None
 
 -- the relation and the way of a test under `how`
 abbrev pub rel_at : Data → (Rel → Result Pred Flaw) → Result Pred Flaw

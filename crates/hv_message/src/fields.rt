@@ -6,7 +6,7 @@ ghost use Rattle.serde_json.specs.View.{view, items_view, number_view};
 ghost use Rattle.hv_expr.specs.Checks.{is_fit_factor};
 ghost use Rattle.hv_message.specs.Fields as field;
 ghost use Rattle.hv_message.specs.Flaws.{map_ok};
-ghost use Rattle.hv_message.specs.Meant.{IsField};
+ghost use Rattle.hv_message.specs.Meant.{IsField, needed};
 
 use crate::Why;
 use crate::refused::Refused;
@@ -53,14 +53,21 @@ pub(crate) fn list_at<'a>(value: &'a Value, key: &str) -> Option<&'a [Value]>
     value.get(key).and_then(Value::as_array).map(Vec::as_slice)
 }
 
+/// What has to be there in the shape that is asked for.
+pub(crate) fn needed<T>(found: Option<T>) -> Result<T, Refused>
+    ensures { result ≡ needed found }
+{
+    match found {
+        Some(found) => Ok(found),
+        None => Err(Refused::Word(Why::Field)),
+    }
+}
+
 /// The value of a field that has to be there.
 pub(crate) fn field<'a>(value: &'a Value, key: &str) -> Result<&'a Value, Refused>
     ensures { IsField (map_ok (λ found. view found.now) result) (get key.now (view value.now)) }
 {
-    match value.get(key) {
-        Some(found) => Ok(found),
-        None => Err(Refused::Word(Why::Field)),
-    }
+    needed(value.get(key))
 }
 
 /// The whole number of at most 64 bits of a field.
@@ -68,30 +75,29 @@ pub(crate) fn number(value: &Value, key: &str) -> Result<i128, Refused>
     ensures value { IsField result (field.integer_at key.now (view value.now)) }
     ensures fit { IfOk result (λ n. is_fit_factor n ≡ true) }
 {
-    match integer_at(value, key) {
-        Some(n) => Ok(n),
-        None => Err(Refused::Word(Why::Field)),
-    }
+    needed(integer_at(value, key))
 }
 
 /// The word of a field.
 pub(crate) fn word<'a>(value: &'a Value, key: &str) -> Result<&'a str, Refused>
     ensures { IsField (map_ok (λ text. text.now) result) (field.text_at key.now (view value.now)) }
 {
-    match text_at(value, key) {
-        Some(text) => Ok(text),
-        None => Err(Refused::Word(Why::Field)),
-    }
+    needed(text_at(value, key))
+}
+
+/// The items of a field that is a list.
+pub(crate) fn list<'a>(value: &'a Value, key: &str) -> Result<&'a [Value], Refused>
+    ensures { IsField (map_ok (λ list. items_view list.now) result)
+        (field.list_at key.now (view value.now)) }
+{
+    needed(list_at(value, key))
 }
 
 /// The name, in memory of its own, of a field.
 pub(crate) fn name(alloc: Global, value: &Value, key: &str) -> Result<Text, Refused>
     ensures { IsField result (field.text_at key.now (view value.now)) }
 {
-    match text_at(value, key) {
-        Some(text) => Ok(Text::of(alloc, text)?),
-        None => Err(Refused::Word(Why::Field)),
-    }
+    Ok(Text::of(alloc, word(value, key)?)?)
 }
 
 /// The texts of a list.
@@ -101,9 +107,7 @@ fn all_texts(alloc: Global, items: &[Value]) -> Result<Listed<Text>, Refused>
     let mut found = Listed::new(alloc);
     let mut rest = items;
     while let [first, after @ ..] = rest {
-        let Some(text) = first.as_str() else {
-            return Err(Refused::Word(Why::Field));
-        };
+        let text = needed(first.as_str())?;
         found.push(Text::of(alloc, text)?)?;
         rest = after;
     }
@@ -114,8 +118,5 @@ fn all_texts(alloc: Global, items: &[Value]) -> Result<Listed<Text>, Refused>
 pub(crate) fn names(alloc: Global, value: &Value, key: &str) -> Result<Listed<Text>, Refused>
     ensures { IsField result (field.texts_at key.now (view value.now)) }
 {
-    match list_at(value, key) {
-        Some(list) => all_texts(alloc, list),
-        None => Err(Refused::Word(Why::Field)),
-    }
+    all_texts(alloc, list(value, key)?)
 }

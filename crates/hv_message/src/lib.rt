@@ -20,6 +20,7 @@ mod tables;
 mod terms;
 mod views;
 mod why;
+mod words;
 
 pub use flaw::Flaw;
 pub use laws::levels_are_enough;
@@ -32,6 +33,7 @@ pub use message::{Message, Refusal};
 pub use read::{id_in, read_message, read_value};
 pub use state::TalkState;
 pub use why::Why;
+pub use words::{how_word, kind_word, rel_word};
 
 #[cfg(test)]
 mod tests;

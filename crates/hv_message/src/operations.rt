@@ -36,23 +36,11 @@ fn shape(alloc: Global, value: &Value, op: &str) -> Result<Asked, Refused>
 {
     match op {
         "load" => Ok(Asked::Load(table_in(alloc, value, "table")?)),
-        "filter" => {
-            let of = number(value, "of")?;
-            Ok(Asked::Over(of, filter_of(alloc, value)?))
-        }
-        "project" => {
-            let of = number(value, "of")?;
-            Ok(Asked::Over(of, project_of(alloc, value)?))
-        }
-        "derive" => {
-            let of = number(value, "of")?;
-            Ok(Asked::Over(of, derive_of(alloc, value)?))
-        }
+        "filter" => Ok(Asked::Over(number(value, "of")?, filter_of(alloc, value)?)),
+        "project" => Ok(Asked::Over(number(value, "of")?, project_of(alloc, value)?)),
+        "derive" => Ok(Asked::Over(number(value, "of")?, derive_of(alloc, value)?)),
         "info" => Ok(Asked::Info(number(value, "of")?)),
-        "view" => {
-            let of = number(value, "of")?;
-            Ok(Asked::View(of, view_in(alloc, value)?))
-        }
+        "view" => Ok(Asked::View(number(value, "of")?, view_in(alloc, value)?)),
         "cancel" => Ok(Asked::Cancel(number(value, "request")?)),
         "end" => Ok(Asked::End),
         _ => Err(Refused::Word(Why::Op)),

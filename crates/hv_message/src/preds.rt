@@ -9,37 +9,13 @@ ghost use Rattle.hv_message.specs.Trees as tree;
 
 use crate::constants::{cell_in, dated, is_short};
 use crate::fields::{bool_at, list_at, text_at};
+use crate::words::{how_named, rel_named};
 use crate::{Flaw, LEVELS, MAX_NODES};
-use hv_expr::{How, Pred, Rel, TextTest};
+use hv_expr::{Pred, TextTest};
 use hv_value::{Cell, Kind, Mem, Schema, Text};
 use serde_json::Value;
 use sqlite_items::{Boxed, Items};
 use std::alloc::Global;
-
-fn rel_named(word: &str) -> Option<Rel>
-    ensures { result ≡ tree.rel_named word.now }
-{
-    match word {
-        "lt" => Some(Rel::Lt),
-        "le" => Some(Rel::Le),
-        "eq" => Some(Rel::Eq),
-        "ne" => Some(Rel::Ne),
-        "ge" => Some(Rel::Ge),
-        "gt" => Some(Rel::Gt),
-        _ => None,
-    }
-}
-
-fn how_named(word: &str) -> Option<How>
-    ensures { result ≡ tree.how_named word.now }
-{
-    match word {
-        "equals" => Some(How::Equals),
-        "contains" => Some(How::Contains),
-        "begins" => Some(How::Begins),
-        _ => None,
-    }
-}
 
 fn cmp_in(alloc: Global, value: &Value) -> Mem<Result<Pred, Flaw>>
     ensures { IfOk result (λ read. read ≡ tree.cmp_in (view value.now)) }

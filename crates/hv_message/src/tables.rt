@@ -9,32 +9,18 @@ ghost use Rattle.hv_message.specs.Tables as table;
 
 use crate::Why;
 use crate::asked::TableAsked;
-use crate::fields::{field, list_at, name, names};
+use crate::fields::{field, list, name, names, needed};
 use crate::refused::Refused;
+use crate::words::kind_named;
 use hv_value::{Kind, Listed, Text};
 use serde_json::Value;
 use std::alloc::Global;
 
-fn kind_named(word: &str) -> Option<Kind>
-    ensures { result ≡ table.kind_named word.now }
-{
-    match word {
-        "int" => Some(Kind::Int),
-        "date" => Some(Kind::Date),
-        "text" => Some(Kind::Text),
-        _ => None,
-    }
-}
-
 fn column_from(alloc: Global, name: &Value, word: &Value) -> Result<(Text, Kind), Refused>
     ensures { IsField result (table.column_from (view name.now) (view word.now)) }
 {
-    let Some(text) = name.as_str() else {
-        return Err(Refused::Word(Why::Field));
-    };
-    let Some(kind) = word.as_str().and_then(kind_named) else {
-        return Err(Refused::Word(Why::Field));
-    };
+    let text = needed(name.as_str())?;
+    let kind = needed(word.as_str().and_then(kind_named))?;
     Ok((Text::of(alloc, text)?, kind))
 }
 
@@ -57,10 +43,7 @@ fn column_of_items(alloc: Global, items: &[Value]) -> Result<(Text, Kind), Refus
 fn column_of(alloc: Global, value: &Value) -> Result<(Text, Kind), Refused>
     ensures { IsField result (table.column_of (view value.now)) }
 {
-    match value.as_array() {
-        Some(list) => column_of_items(alloc, list.as_slice()),
-        None => Err(Refused::Word(Why::Field)),
-    }
+    column_of_items(alloc, needed(value.as_array())?.as_slice())
 }
 
 fn all_columns(alloc: Global, items: &[Value]) -> Result<Listed<(Text, Kind)>, Refused>
@@ -79,10 +62,7 @@ fn all_columns(alloc: Global, items: &[Value]) -> Result<Listed<(Text, Kind)>, R
 fn columns_in(alloc: Global, value: &Value) -> Result<Listed<(Text, Kind)>, Refused>
     ensures { IsField result (table.columns_in (view value.now)) }
 {
-    match list_at(value, "schema") {
-        Some(list) => all_columns(alloc, list),
-        None => Err(Refused::Word(Why::Field)),
-    }
+    all_columns(alloc, list(value, "schema")?)
 }
 
 fn inline_of(alloc: Global, value: &Value) -> Result<TableAsked, Refused>
