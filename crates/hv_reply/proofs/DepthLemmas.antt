@@ -1,8 +1,11 @@
 -- A lineage's JSON nests at most 97 deep, fewer than serde_json's reading allows.
-use Rattle.std.proofs.Common.{◌≡◌, ◌+◌, ◌*◌, ◌≤◌, ℕ, max, List, [], ◌∷◌, map, None, refl, sym, ap, subst, arith}
-use Rattle.serde_json.specs.Data.{Data, string, depth, items_depth}
+use Rattle.std.proofs.Common.{◌≡◌, ◌+◌, ◌*◌, ◌≤◌, ℕ, ℤ, max, Bool, true, false, if◌then◌else◌, List, [], ◌∷◌, map, None, refl, sym, ap, subst, arith}
+use Rattle.serde_json.specs.Data.{Data, number, string, depth, items_depth}
+use Rattle.serde_json.specs.Find.{of_integer}
 use Rattle.serde_json.specs.Read.{max_depth}
 use Rattle.serde_json.specs.View.{items_of}
+use Rattle.hv_value.specs.Civil.{text_of_day}
+use Rattle.hv_value.specs.Days.{is_day_number}
 use Rattle.hv_value.specs.Schema.{Columns}
 use Rattle.hv_value.specs.declared.cell.Cell.{Cell}
 use Rattle.hv_value.specs.declared.cell.Cell.TheVariants as cell
@@ -27,7 +30,7 @@ use Rattle.hv_lineage.specs.declared.term.Term.TheOpen.{Term-F}
 use Rattle.hv_lineage.specs.declared.term.Term.TheVariants as term
 use Rattle.hv_lineage.proofs.TermNodes.{AreFit, depth-Base, depth-Derive, depth-Filter, depth-Project, fold-Base, fold-Derive, fold-Filter, fold-Project, here-Derive, here-Filter, inner-Derive, inner-Filter, inner-Project}
 use Rattle.hv_reply.specs.Lineages.{base_data, column_data, expr_data, expr_node_data, lineage_data, pred_data, pred_node_data, term_data, term_node_data}
-use Rattle.hv_reply.specs.Values.{cell_data}
+use Rattle.hv_reply.specs.Values.{cell_data, day_data}
 use Rattle.hv_reply.proofs.ExprBack.{not_deep}
 
 -- ---- expressions
@@ -53,10 +56,17 @@ deep_expr = ind-Expr DeepExpr (λ x y is. subst (λ z. DeepExpr (roll-Expr z)) i
 
 -- ---- predicates: a list of them takes two levels
 
+flat_day : (day : ℤ) → depth (day_data day) ≡ 0
+flat_day day = by (is_day_number day)
+  where
+    by : (b : Bool) → depth (if b then string (text_of_day day) else number (of_integer day)) ≡ 0
+    by true = refl
+    by false = refl
+
 flat_cell : (c : Cell) → depth (cell_data c) ≡ 0
 flat_cell cell.Missing = refl
 flat_cell (cell.Int n) = refl
-flat_cell (cell.Date day) = refl
+flat_cell (cell.Date day) = flat_day day
 flat_cell (cell.Text text) = refl
 
 abbrev DeepPred : Pred → Type 0

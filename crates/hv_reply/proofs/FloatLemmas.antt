@@ -1,8 +1,10 @@
 -- No reply and no lineage holds a float, so serde_json's text of it is exact.
-use Rattle.std.proofs.Common.{◌≡◌, ℕ, pos, negsuc, ℤ, List, [], ◌∷◌, map, false, Option, Some, None, refl, subst, sym}
-use Rattle.serde_json.specs.Data.{Data, number}
+use Rattle.std.proofs.Common.{◌≡◌, ℕ, pos, negsuc, ℤ, List, [], ◌∷◌, map, Bool, true, false, Option, Some, None, if◌then◌else◌, refl, subst, sym}
+use Rattle.serde_json.specs.Data.{Data, number, string}
 use Rattle.serde_json.specs.Find.{of_integer}
 use Rattle.serde_json.specs.Written.{has_float}
+use Rattle.hv_value.specs.Civil.{text_of_day}
+use Rattle.hv_value.specs.Days.{is_day_number}
 use Rattle.hv_value.specs.Schema.{Columns}
 use Rattle.hv_value.specs.declared.cell.Cell.{Cell}
 use Rattle.hv_value.specs.declared.cell.Cell.TheVariants as cell
@@ -21,7 +23,7 @@ use Rattle.hv_reply.specs.declared.reply.Reply.{Reply}
 use Rattle.hv_reply.specs.declared.reply.Reply.TheVariants as reply
 use Rattle.hv_reply.specs.Lineages.{base_data, columns_data, expr_data, expr_node_data, lineage_data, pred_data, pred_node_data, term_data, term_node_data, texts_data}
 use Rattle.hv_reply.specs.Replies.{reply_data}
-use Rattle.hv_reply.specs.Values.{cell_data, list_of, shown_data, sum_data, whole, whole_or_null}
+use Rattle.hv_reply.specs.Values.{cell_data, day_data, list_of, shown_data, sum_data, whole, whole_or_null}
 
 -- ---- numbers, cells and lists
 
@@ -37,10 +39,17 @@ integer : (n : ℤ) → has_float (number (of_integer n)) ≡ false
 integer (pos n) = refl
 integer (negsuc n) = refl
 
+day_plain : (day : ℤ) → has_float (day_data day) ≡ false
+day_plain day = by (is_day_number day)
+  where
+    by : (b : Bool) → has_float (if b then string (text_of_day day) else number (of_integer day)) ≡ false
+    by true = refl
+    by false = integer day
+
 cell_plain : (c : Cell) → has_float (cell_data c) ≡ false
 cell_plain cell.Missing = refl
 cell_plain (cell.Int n) = integer n
-cell_plain (cell.Date day) = refl
+cell_plain (cell.Date day) = day_plain day
 cell_plain (cell.Text text) = refl
 
 cells : (cs : List Cell) → has_float (list_of (map cell_data cs)) ≡ false

@@ -1,8 +1,10 @@
 pub mod TermFolds
 pub mod ColumnLemmas
 pub mod PartLemmas
+pub mod FitNumbers
 pub mod FloatLemmas
 pub mod GivenLemmas
+pub mod DateTexts
 pub mod DayBack
 pub mod ExprBack
 pub mod PredBack

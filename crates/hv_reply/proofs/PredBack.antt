@@ -61,7 +61,7 @@ cell_back : (c : Cell) → is_given c ≡ true → cell_in (cell_data c) ≡ Ok 
 cell_back cell.Missing given = refl
 cell_back (cell.Int (pos n)) given = rw (below_i64 n given) refl
 cell_back (cell.Int (negsuc n)) given = refl
-cell_back (cell.Date day) given = rw (ten_bytes day) refl
+cell_back (cell.Date day) given = rw (given, ten_bytes day) refl
 cell_back (cell.Text text) given = rw given refl
 
 -- beside a column of its kind it is the same again

@@ -1,10 +1,11 @@
 -- Lineages as JSON: the base, and the term over it with every field of its predicates and expressions. This project's own rule.
-use Rattle.std.specs.Prelude.{ℕ, List, [], ◌∷◌, map, codes}
+use Rattle.std.specs.Prelude.{ℕ, List, [], ◌∷◌, map, codes, Bool, true, ◌&&◌}
 use Rattle.serde_json.specs.Data.{Data, boolean, number, string, object, member, no_members}
 use Rattle.serde_json.specs.Find.{of_integer}
 use Rattle.serde_json.specs.Written.{compact_text}
 use Rattle.hv_value.specs.Schema.{Columns}
 use Rattle.hv_value.specs.declared.cell.Kind.{Kind}
+use Rattle.hv_expr.specs.Checks.{has_fit_factors}
 use Rattle.hv_expr.specs.declared.expr.Expr.{Expr, fold-Expr}
 use Rattle.hv_expr.specs.declared.expr.Expr.TheOpen.{Expr-F}
 use Rattle.hv_expr.specs.declared.pred.Pred.{Pred, fold-Pred}
@@ -102,6 +103,17 @@ term_node_data (Term-F.Derive of name e) = object (member (codes "expr") (expr_d
 -- a term
 unfoldable pub term_data : Term → Data
 term_data = fold-Term Data term_node_data
+
+-- whether a node's expression has factors and summands of 64 bits, where it has one, and so below it
+abbrev pub fit_term_node : Term-F Bool → Bool
+fit_term_node Term-F.Base = true
+fit_term_node (Term-F.Filter of p) = of
+fit_term_node (Term-F.Project of cols) = of
+fit_term_node (Term-F.Derive of name e) = of && has_fit_factors e
+
+-- whether each factor and summand of a term's expressions is a number of 64 bits, with a sign or without
+unfoldable pub has_fit_numbers : Term → Bool
+has_fit_numbers = fold-Term Bool fit_term_node
 
 -- a lineage: its base and its term
 abbrev pub lineage_data : TermOver → Data

@@ -1,10 +1,11 @@
 -- Cells and the values of views as JSON: this project's own rule, over serde_json's words for JSON data. Keys are in byte order.
-use Rattle.std.specs.Prelude.{ℕ, ℤ, List, map, Option, Some, None, codes}
+use Rattle.std.specs.Prelude.{ℕ, ℤ, List, map, Option, Some, None, codes, if◌then◌else◌}
 use Rattle.std.specs.Fmt.{signed_decimal}
 use Rattle.serde_json.specs.Data.{Data, null, boolean, number, string, array, object, member, no_members, unsigned}
 use Rattle.serde_json.specs.Find.{of_integer}
 use Rattle.serde_json.specs.View.{items_of}
 use Rattle.hv_value.specs.Civil.{text_of_day}
+use Rattle.hv_value.specs.Days.{is_day_number}
 use Rattle.hv_value.specs.declared.cell.Cell.{Cell}
 use Rattle.hv_value.specs.declared.cell.Cell.TheVariants as cell
 use Rattle.hv_view.specs.declared.shown.Shown.{Shown}
@@ -21,11 +22,15 @@ whole_or_null (Some n) = whole n
 abbrev pub list_of : List Data → Data
 list_of values = array (items_of values)
 
+-- a day: the text of a day of the years 1 to 9999; another day has no text, and is its number
+abbrev pub day_data : ℤ → Data
+day_data day = if is_day_number day then string (text_of_day day) else number (of_integer day)
+
 -- a cell: null, a number, a date's text, or a text
 abbrev pub cell_data : Cell → Data
 cell_data cell.Missing = null
 cell_data (cell.Int n) = number (of_integer n)
-cell_data (cell.Date day) = string (text_of_day day)
+cell_data (cell.Date day) = day_data day
 cell_data (cell.Text text) = string text
 
 -- a sum is a text, since it may be wider than 64 bits, and null where there is none

@@ -1,8 +1,9 @@
 //! Expressions as JSON, every field of each. What each is is said in specs/Lineages.antt.
 
-ghost use Rattle.std.specs.Prelude.{◌≡◌, codes, IfOk};
+ghost use Rattle.std.specs.Prelude.{◌≡◌, codes, true, IfOk};
 ghost use Rattle.serde_json.specs.Data.{string, object, member, no_members};
 ghost use Rattle.serde_json.specs.View.{view};
+ghost use Rattle.hv_expr.specs.Checks.{has_fit_factors};
 ghost use Rattle.hv_reply.specs.Lineages.{expr_data, operated};
 
 use crate::values::integer_value;
@@ -11,9 +12,10 @@ use hv_value::Mem;
 use serde_json::{Value, json};
 use std::alloc::{AllocError, Global};
 
-/// An expression.
-#[tactic(auto, using(hv_expr::proofs::Folds::folds), unfolding(crate::specs::Lineages::expr_data))]
+/// An expression whose factors and summands are numbers of 64 bits.
+#[tactic(auto, using(hv_expr::proofs::Folds::folds), unfolding(crate::specs::Lineages::expr_data, hv_expr::specs::Checks::has_fit_factors))]
 pub(crate) fn expr_value(alloc: Global, expr: &Expr) -> Mem<Value>
+    requires { has_fit_factors expr.now ≡ true }
     ensures { IfOk result (λ value. view value ≡ expr_data expr.now) }
 {
     match expr {
@@ -23,8 +25,8 @@ pub(crate) fn expr_value(alloc: Global, expr: &Expr) -> Mem<Value>
         Expr::Day(of) => Ok(operated(alloc, "day", expr_value(alloc, of.get())?)?),
         Expr::Length(of) => Ok(operated(alloc, "length", expr_value(alloc, of.get())?)?),
         Expr::Linear { a, b, of } => {
-            let a = integer_value(*a)?;
-            let b = integer_value(*b)?;
+            let a = integer_value(*a);
+            let b = integer_value(*b);
             Ok(linear_value(alloc, a, b, expr_value(alloc, of.get())?)?)
         }
         Expr::Join {

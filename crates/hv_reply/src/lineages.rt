@@ -1,9 +1,9 @@
 //! Lineages as JSON: the base and the term over it. The definition is `lineage_data` (specs/Lineages.antt).
 
-ghost use Rattle.std.specs.Prelude.{◌≡◌, map, codes, IfOk};
+ghost use Rattle.std.specs.Prelude.{◌≡◌, map, codes, true, IfOk};
 ghost use Rattle.serde_json.specs.Data.{string, object, member, no_members};
 ghost use Rattle.serde_json.specs.View.{view};
-ghost use Rattle.hv_reply.specs.Lineages.{base_data, column_data, columns_data, expr_data, lineage_data, pred_data, term_data, texts_data};
+ghost use Rattle.hv_reply.specs.Lineages.{base_data, column_data, columns_data, expr_data, has_fit_numbers, lineage_data, pred_data, term_data, texts_data};
 
 use crate::exprs::expr_value;
 use crate::preds::pred_value;
@@ -76,9 +76,10 @@ fn named_value(alloc: Global, columns: Value, table: &str) -> Result<Value, Allo
     json!(in alloc; {"named": {"schema": columns, "table": table}})
 }
 
-/// A term.
-#[tactic(auto, using(crate::proofs::TermFolds::folds), unfolding(crate::specs::Lineages::term_data))]
+/// A term whose expressions have factors and summands of 64 bits.
+#[tactic(auto, using(crate::proofs::TermFolds::folds), unfolding(crate::specs::Lineages::term_data, crate::specs::Lineages::has_fit_numbers))]
 fn term_value(alloc: Global, term: &Term) -> Mem<Value>
+    requires { has_fit_numbers term.now ≡ true }
     ensures { IfOk result (λ value. view value ≡ term_data term.now) }
 {
     match term {
@@ -130,9 +131,11 @@ fn derive_value(alloc: Global, expr: Value, name: &str, of: Value) -> Result<Val
 }
 
 /// A lineage as JSON: its base and its term.
+#[tactic(auto, using(crate::proofs::FitNumbers::lineage_fit))]
 pub fn lineage_value(alloc: Global, lineage: &Lineage) -> Mem<Value>
     ensures { IfOk result (λ value. view value ≡ lineage_data lineage.now) }
 {
+    let _kept = lineage.schema();
     let base = base_value(alloc, lineage.origin())?;
     let term = term_value(alloc, lineage.term())?;
     Ok(over_value(alloc, base, term)?)

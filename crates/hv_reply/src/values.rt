@@ -8,9 +8,10 @@ ghost use Rattle.serde_json.specs.View.{view};
 ghost use Rattle.hv_value.specs.Civil.{text_of_day};
 ghost use Rattle.hv_value.specs.Days.{is_day_number};
 ghost use Rattle.hv_view.specs.declared.shown.Shown.TheVariants as shown;
-ghost use Rattle.hv_reply.specs.Values.{cell_data, list_of, shown_data, sum_data, whole, whole_or_null};
+ghost use Rattle.hv_expr.specs.Checks.{is_fit_factor};
+ghost use Rattle.hv_reply.specs.Values.{cell_data, day_data, list_of, shown_data, sum_data, whole, whole_or_null};
 
-use hv_value::{Cell, Mem, Memory, date_text};
+use hv_value::{Cell, Mem, date_text};
 use hv_view::Shown;
 use serde_json::{Value, json};
 use std::alloc::{AllocError, Global};
@@ -27,17 +28,15 @@ fn is_day_number(day: i32) -> bool
     FIRST_DAY <= day && day <= LAST_DAY
 }
 
-/// A whole number of JSON: of 64 bits, with a sign or without. A wider one is answered by want of memory; no number of
-/// a message or of a lineage is.
-pub(crate) fn integer_value(n: i128) -> Mem<Value>
-    ensures { IfOk result (λ value. view value ≡ number (of_integer n)) }
+/// A whole number of 64 bits, with a sign or without.
+pub(crate) fn integer_value(n: i128) -> Value
+    requires { is_fit_factor n ≡ true }
+    ensures { view result ≡ number (of_integer n) }
 {
-    if let Ok(n) = u64::try_from(n) {
-        return Ok(Value::from(n));
-    }
-    match i64::try_from(n) {
-        Ok(n) => Ok(Value::from(n)),
-        Err(_) => Err(Memory),
+    if n < 0 {
+        Value::from(n as i64)
+    } else {
+        Value::from(n as u64)
     }
 }
 
@@ -48,26 +47,26 @@ pub(crate) fn whole_or_null(n: Option<u64>) -> Value
     Value::from(n)
 }
 
-/// The text of a day. A number that is none of the years 1 to 9999 has no text and is answered by want of memory; no
-/// cell of a table or of a message is such.
+/// The text of a day of the years 1 to 9999. A number of another day, which no table and no message has, stands for
+/// itself.
 fn day_value(alloc: Global, day: i32) -> Mem<Value>
-    ensures { IfOk result (λ value. view value ≡ string (text_of_day day)) }
+    ensures { IfOk result (λ value. view value ≡ day_data day) }
 {
     if is_day_number(day) {
-        ascii_value(alloc, &date_text(day))
+        date_value(alloc, day)
     } else {
-        Err(Memory)
+        Ok(Value::from(day))
     }
 }
 
-/// A text that is given as its bytes, which are UTF-8.
-fn ascii_value(alloc: Global, bytes: &[u8]) -> Mem<Value>
-    ensures { IfOk result (λ value. view value ≡ string bytes.now) }
+/// The text of a day.
+fn date_value(alloc: Global, day: i32) -> Mem<Value>
+    requires { is_day_number day ≡ true }
+    ensures { IfOk result (λ value. view value ≡ string (text_of_day day)) }
 {
-    match std::str::from_utf8(bytes) {
-        Ok(text) => Ok(Value::try_from_str(alloc, text)?),
-        Err(_) => Err(Memory),
-    }
+    let digits = date_text(day);
+    let text = std::str::from_utf8(&digits).unwrap();
+    Ok(Value::try_from_str(alloc, text)?)
 }
 
 /// A cell: null, a number, a date's text, or a text.
