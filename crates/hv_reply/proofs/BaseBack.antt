@@ -9,8 +9,6 @@ use Rattle.serde_json.proofs.OnLiterals.{serde_json_on_literals}
 use Rattle.hv_value.specs.Catalog.{Tables}
 use Rattle.hv_value.specs.Schema.{Columns, is_schema}
 use Rattle.hv_value.specs.declared.catalog.TheConstants.{MAX_PARTITIONS}
-use Rattle.hv_value.specs.declared.cell.Kind.{Kind}
-use Rattle.hv_value.specs.declared.cell.Kind.TheVariants as kind
 use Rattle.hv_lineage.specs.Bases.{IsFitBase, base_columns}
 use Rattle.hv_lineage.specs.Lineages.{TermOver}
 use Rattle.hv_lineage.specs.declared.base.Base.{Base}
@@ -18,18 +16,14 @@ use Rattle.hv_lineage.specs.declared.base.Base.TheVariants as base
 use Rattle.hv_lineage.specs.declared.term.Term.TheVariants as term
 use Rattle.hv_message.specs.Fields.{all_read}
 use Rattle.hv_message.specs.LineageTexts.{base_in}
-use Rattle.hv_message.specs.Tables.{are_parts, column_of, is_short_part, kind_named}
-use Rattle.hv_reply.specs.Lineages.{column_data, kind_word, lineage_data}
+use Rattle.hv_message.specs.Tables.{are_parts, column_of, is_short_part}
+use Rattle.hv_message.proofs.WordLemmas.{kind_back}
+use Rattle.hv_reply.specs.Lineages.{column_data, lineage_data}
 use Rattle.hv_reply.specs.ReadBack.{IsKnownBase}
 
 -- the lineage of a base
 abbrev pub based : Base → TermOver
 based b = record { base = b; term = term.Base }
-
-kind_back : (k : Kind) → kind_named (kind_word k) ≡ Some k
-kind_back kind.Int = refl
-kind_back kind.Date = refl
-kind_back kind.Text = refl
 
 columns_back : (columns : Columns) → all_read column_of (items_of (map column_data columns)) ≡ Some columns
 columns_back [] = refl

@@ -30,9 +30,10 @@ use Rattle.hv_expr.specs.Sizes.{greatest, pred_depth, pred_measure, pred_nodes}
 use Rattle.hv_expr.proofs.Folds.{fold-Cmp, fold-Missing, fold-Match, fold-And, fold-Or, fold-Not}
 use Rattle.hv_message.specs.Constants.{cell_in, dated, is_short}
 use Rattle.hv_message.specs.Flaws.{all_of, and_then, map_ok}
-use Rattle.hv_message.specs.Trees.{dated_node, dated_pred, few_preds, levels, pred_in, rel_named, how_named, whole_pred}
+use Rattle.hv_message.specs.Trees.{dated_node, dated_pred, few_preds, levels, pred_in, whole_pred}
+use Rattle.hv_message.proofs.WordLemmas.{how_back, rel_back}
 use Rattle.hv_message.specs.declared.limits.TheConstants.{MAX_NODES}
-use Rattle.hv_reply.specs.Lineages.{how_word, pred_data, pred_node_data, rel_word}
+use Rattle.hv_reply.specs.Lineages.{pred_data, pred_node_data}
 use Rattle.hv_reply.specs.ReadBack.{IsGivenPred, given_node, has_given_constants, is_given}
 use Rattle.hv_reply.specs.Values.{cell_data}
 use Rattle.hv_reply.proofs.DayBack.{day_back}
@@ -92,19 +93,6 @@ undated_node (Pred-F.Not of) = pred.Not of
 -- a predicate before its columns are known
 undated : Pred → Pred
 undated = fold-Pred Pred undated_node
-
-rel_back : (r : Rel) → rel_named (rel_word r) ≡ Some r
-rel_back rel.Lt = refl
-rel_back rel.Le = refl
-rel_back rel.Eq = refl
-rel_back rel.Ne = refl
-rel_back rel.Ge = refl
-rel_back rel.Gt = refl
-
-how_back : (h : How) → how_named (how_word h) ≡ Some h
-how_back how.Equals = refl
-how_back how.Contains = refl
-how_back how.Begins = refl
 
 module _ (m : ℕ) where
   cmp_in : (col : List ℕ) (r : Rel) (to : Cell) → is_given to ≡ true → pred_in (suc m) (pred_node_data (Pred-F.Cmp col r to)) ≡ Ok (pred.Cmp col r (undated_cell to))

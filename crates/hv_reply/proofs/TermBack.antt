@@ -18,7 +18,8 @@ use Rattle.hv_lineage.specs.declared.term.Term.TheVariants as term
 use Rattle.hv_lineage.specs.declared.term.TheConstants.{MAX_TERM_DEPTH, MAX_TERM_NODES}
 use Rattle.hv_lineage.proofs.TermNodes.{AreFit, depth-Base, depth-Derive, depth-Filter, depth-Project, fold-Base, fold-Derive, fold-Filter, fold-Project, here-Derive, here-Filter, here-Project, inner-Derive, inner-Filter, inner-Project, size-Derive, size-Filter, size-Project}
 use Rattle.hv_message.specs.Flaws.{and_then}
-use Rattle.hv_message.specs.LineageTexts.{derive_over, filter_over, project_over, term_in}
+use Rattle.hv_message.specs.LineageTexts.{term_in}
+use Rattle.hv_message.specs.Terms.{derive_of, filter_of, over, project_of}
 use Rattle.hv_reply.specs.Lineages.{term_data, term_node_data}
 use Rattle.hv_reply.specs.ReadBack.{IsGivenExpr, IsGivenNode, IsGivenPred}
 use Rattle.hv_reply.proofs.BaseBack.{based, texts_back}
@@ -72,17 +73,17 @@ module _ (m : ℕ) (base : TermOver) where
   unfolding term_in serde_json_on_literals
   base_in = refl
 
-  filter_in : (d : Data) (p : Pred) → term_in (suc m) base (term_node_data (Term-F.Filter d p)) ≡ and_then (filter_over (term_node_data (Term-F.Filter d p))) (term_in m base d)
+  filter_in : (d : Data) (p : Pred) → term_in (suc m) base (term_node_data (Term-F.Filter d p)) ≡ and_then (over filter_of (term_node_data (Term-F.Filter d p))) (term_in m base d)
   unfolding term_in serde_json_on_literals
   filter_in d p = refl
 
   project_in : (d : Data) (cols : List (List ℕ))
-      → term_in (suc m) base (term_node_data (Term-F.Project d cols)) ≡ and_then (project_over (term_node_data (Term-F.Project d cols))) (term_in m base d)
+      → term_in (suc m) base (term_node_data (Term-F.Project d cols)) ≡ and_then (over project_of (term_node_data (Term-F.Project d cols))) (term_in m base d)
   unfolding term_in serde_json_on_literals
   project_in d cols = refl
 
   derive_in : (d : Data) (name : List ℕ) (e : Expr)
-      → term_in (suc m) base (term_node_data (Term-F.Derive d name e)) ≡ and_then (derive_over (term_node_data (Term-F.Derive d name e))) (term_in m base d)
+      → term_in (suc m) base (term_node_data (Term-F.Derive d name e)) ≡ and_then (over derive_of (term_node_data (Term-F.Derive d name e))) (term_in m base d)
   unfolding term_in serde_json_on_literals
   derive_in d name e = refl
 
@@ -94,17 +95,17 @@ room lineage deep large =
 
 module _ (lineage : TermOver) (d : Data) (free : room_refusal lineage ≡ None) where
   filter_made : (p : Pred) → pred_fault (lineage_columns lineage) p ≡ None → PredBack (lineage_columns lineage) p
-      → filter_over (term_node_data (Term-F.Filter d p)) lineage ≡ Ok (filtered lineage p)
+      → over filter_of (term_node_data (Term-F.Filter d p)) lineage ≡ Ok (filtered lineage p)
   unfolding serde_json_on_literals
   filter_made p fine back = rw (back.reads, back.dated, fine, free) refl
 
   project_made : (cols : List (List ℕ)) → choice_refusal (lineage_columns lineage) cols ≡ None
-      → project_over (term_node_data (Term-F.Project d cols)) lineage ≡ Ok (projected lineage cols)
+      → over project_of (term_node_data (Term-F.Project d cols)) lineage ≡ Ok (projected lineage cols)
   unfolding serde_json_on_literals
   project_made cols fine = rw (texts_back cols, fine, free) refl
 
   derive_made : (name : List ℕ) (e : Expr) → IsFitColumn (lineage_columns lineage) name e → IsGivenExpr e
-      → derive_over (term_node_data (Term-F.Derive d name e)) lineage ≡ Ok (derived lineage name e)
+      → over derive_of (term_node_data (Term-F.Derive d name e)) lineage ≡ Ok (derived lineage name e)
   unfolding serde_json_on_literals
   derive_made name e fit given = rw (expr.whole_back (lineage_columns lineage) e fit.value given, fit.value, fit.named, free) refl
 
@@ -129,7 +130,7 @@ module _ (b : Base) where
   filter_term of p inner fit given deep large (suc m) high =
       let fine : pred_fault (columns_of (base_columns b) of) p ≡ None = here-Filter (base_columns b) of p fit in
       ap (term_in (suc m) (based b)) (fold-Filter Data term_node_data of p) ∙ filter_in m (based b) (term_data of) p
-      ∙ ap (and_then (filter_over (term_node_data (Term-F.Filter (term_data of) p))))
+      ∙ ap (and_then (over filter_of (term_node_data (Term-F.Filter (term_data of) p))))
       (inner (inner-Filter (base_columns b) of p fit) (below-Filter IsGivenNode of p given) (omega (arith, depth-Filter of p)) (omega (arith, size-Filter of p)) m (omega (arith, depth-Filter of p)))
       ∙ filter_made (with of) (term_data of) (room (with of) (omega (arith, depth-Filter of p)) (omega (arith, size-Filter of p))) p fine
       (pred.whole_back (columns_of (base_columns b) of) p fine (given-Filter of p given))
@@ -139,7 +140,7 @@ module _ (b : Base) where
   project_term of cols inner fit given deep large zero high = absurd (omega (arith, depth-Project of cols, high))
   project_term of cols inner fit given deep large (suc m) high =
       ap (term_in (suc m) (based b)) (fold-Project Data term_node_data of cols) ∙ project_in m (based b) (term_data of) cols
-      ∙ ap (and_then (project_over (term_node_data (Term-F.Project (term_data of) cols))))
+      ∙ ap (and_then (over project_of (term_node_data (Term-F.Project (term_data of) cols))))
       (inner (inner-Project (base_columns b) of cols fit) (below-Project IsGivenNode of cols given) (omega (arith, depth-Project of cols)) (omega (arith, size-Project of cols)) m (omega (arith, depth-Project of cols)))
       ∙ project_made (with of) (term_data of) (room (with of) (omega (arith, depth-Project of cols)) (omega (arith, size-Project of cols))) cols
       (here-Project (base_columns b) of cols fit)
@@ -149,7 +150,7 @@ module _ (b : Base) where
   derive_term of name e inner fit given deep large zero high = absurd (omega (arith, depth-Derive of name e, high))
   derive_term of name e inner fit given deep large (suc m) high =
       ap (term_in (suc m) (based b)) (fold-Derive Data term_node_data of name e) ∙ derive_in m (based b) (term_data of) name e
-      ∙ ap (and_then (derive_over (term_node_data (Term-F.Derive (term_data of) name e))))
+      ∙ ap (and_then (over derive_of (term_node_data (Term-F.Derive (term_data of) name e))))
       (inner (inner-Derive (base_columns b) of name e fit) (below-Derive IsGivenNode of name e given) (omega (arith, depth-Derive of name e)) (omega (arith, size-Derive of name e)) m (omega (arith, depth-Derive of name e)))
       ∙ derive_made (with of) (term_data of) (room (with of) (omega (arith, depth-Derive of name e)) (omega (arith, size-Derive of name e))) name e
       (here-Derive (base_columns b) of name e fit) (given-Derive of name e given)

@@ -5,28 +5,19 @@ use Rattle.serde_json.specs.Find.{of_integer}
 use Rattle.serde_json.specs.Written.{compact_text}
 use Rattle.hv_value.specs.Schema.{Columns}
 use Rattle.hv_value.specs.declared.cell.Kind.{Kind}
-use Rattle.hv_value.specs.declared.cell.Kind.TheVariants as kind
 use Rattle.hv_expr.specs.declared.expr.Expr.{Expr, fold-Expr}
 use Rattle.hv_expr.specs.declared.expr.Expr.TheOpen.{Expr-F}
 use Rattle.hv_expr.specs.declared.pred.Pred.{Pred, fold-Pred}
 use Rattle.hv_expr.specs.declared.pred.Pred.TheOpen.{Pred-F}
-use Rattle.hv_expr.specs.declared.pred.Rel.{Rel}
-use Rattle.hv_expr.specs.declared.pred.Rel.TheVariants as rel
-use Rattle.hv_expr.specs.declared.text_test.How.{How}
-use Rattle.hv_expr.specs.declared.text_test.How.TheVariants as how
 use Rattle.hv_lineage.specs.declared.base.Base.{Base}
 use Rattle.hv_lineage.specs.declared.base.Base.TheVariants as base
 use Rattle.hv_lineage.specs.declared.term.Term.{Term, fold-Term}
 use Rattle.hv_lineage.specs.declared.term.Term.TheOpen.{Term-F}
 use Rattle.hv_lineage.specs.Lineages.{TermOver}
+use Rattle.hv_message.specs.Words.{how_word, kind_word, rel_word}
 use Rattle.hv_reply.specs.Values.{cell_data, list_of}
 
 -- ---- schemas and bases
-
-abbrev pub kind_word : Kind → List ℕ
-kind_word kind.Int = codes "int"
-kind_word kind.Date = codes "date"
-kind_word kind.Text = codes "text"
 
 -- a column: its name and its kind
 abbrev pub column_data : List ℕ × Kind → Data
@@ -46,19 +37,6 @@ base_data (base.Named columns table parts) = object (member (codes "named") (obj
     (member (codes "table") (string table) no_members))) no_members)
 
 -- ---- predicates and expressions
-
-abbrev pub rel_word : Rel → List ℕ
-rel_word rel.Lt = codes "lt"
-rel_word rel.Le = codes "le"
-rel_word rel.Eq = codes "eq"
-rel_word rel.Ne = codes "ne"
-rel_word rel.Ge = codes "ge"
-rel_word rel.Gt = codes "gt"
-
-abbrev pub how_word : How → List ℕ
-how_word how.Equals = codes "equals"
-how_word how.Contains = codes "contains"
-how_word how.Begins = codes "begins"
 
 -- a list of predicates under a word
 abbrev pub listed : List ℕ → List Data → Data

@@ -3,24 +3,15 @@
 ghost use Rattle.std.specs.Prelude.{◌≡◌, map, codes, IfOk};
 ghost use Rattle.serde_json.specs.Data.{string, object, member, no_members};
 ghost use Rattle.serde_json.specs.View.{view};
-ghost use Rattle.hv_reply.specs.Lineages.{base_data, column_data, columns_data, expr_data, kind_word, lineage_data, pred_data, term_data, texts_data};
+ghost use Rattle.hv_reply.specs.Lineages.{base_data, column_data, columns_data, expr_data, lineage_data, pred_data, term_data, texts_data};
 
 use crate::exprs::expr_value;
 use crate::preds::pred_value;
 use hv_lineage::{Base, Lineage, Term};
+use hv_message::kind_word;
 use hv_value::{Kind, Mem, Schema, Text};
 use serde_json::{Value, json};
 use std::alloc::{AllocError, Global};
-
-fn kind_word(kind: Kind) -> &'static str
-    ensures { result.now ≡ kind_word kind }
-{
-    match kind {
-        Kind::Int => "int",
-        Kind::Date => "date",
-        Kind::Text => "text",
-    }
-}
 
 /// A column: its name and its kind.
 fn column_value(alloc: Global, name: &str, kind: Kind) -> Result<Value, AllocError>

@@ -3,37 +3,16 @@
 ghost use Rattle.std.specs.Prelude.{◌≡◌, codes, map, IfOk};
 ghost use Rattle.serde_json.specs.Data.{boolean, string, object, member, no_members};
 ghost use Rattle.serde_json.specs.View.{view, items_of};
-ghost use Rattle.hv_reply.specs.Lineages.{how_word, pred_data, rel_word};
+ghost use Rattle.hv_message.specs.Words.{how_word, rel_word};
+ghost use Rattle.hv_reply.specs.Lineages.{pred_data};
 ghost use Rattle.hv_reply.specs.Values.{cell_data, list_of};
 
 use crate::values::cell_value;
-use hv_expr::{How, Pred, Rel, TextTest};
+use hv_expr::{Pred, Rel, TextTest};
+use hv_message::{how_word, rel_word};
 use hv_value::{Cell, Mem};
 use serde_json::{Value, json};
 use std::alloc::{AllocError, Global};
-
-fn rel_word(how: Rel) -> &'static str
-    ensures { result.now ≡ rel_word how }
-{
-    match how {
-        Rel::Lt => "lt",
-        Rel::Le => "le",
-        Rel::Eq => "eq",
-        Rel::Ne => "ne",
-        Rel::Ge => "ge",
-        Rel::Gt => "gt",
-    }
-}
-
-fn how_word(how: How) -> &'static str
-    ensures { result.now ≡ how_word how }
-{
-    match how {
-        How::Equals => "equals",
-        How::Contains => "contains",
-        How::Begins => "begins",
-    }
-}
 
 /// A predicate.
 #[cycle(pred_value)]
