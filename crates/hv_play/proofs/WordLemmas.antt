@@ -253,7 +253,7 @@ due_goes : (talk : Talk) (due : Due) (later : List Due) (r : Reply) → talk.due
     → Goes None (ended_by (due ∷ later) r) talk (after_due talk due)
 due_goes talk (answers other) later r e owed kept =
     goes_on talk _ refl (subst (λ dues. IsOwed (drop 1 dues) talk.requests) (sym e) (none_owed later talk.requests owed)) kept
-due_goes talk (making id lineage) later r e owed kept =
+due_goes talk (making id lineage seed) later r e owed kept =
     goes_on talk _ refl (subst (λ dues. IsOwed (drop 1 dues) talk.requests) (sym e) (none_owed later talk.requests owed)) kept
 due_goes talk (ending id) later r e owed kept =
     one_less talk _ id owed.0 refl (subst (λ dues. IsOwed (drop 1 dues) (closed id talk.requests)) (sym e) (none_owed later (closed id talk.requests) owed.1)) kept

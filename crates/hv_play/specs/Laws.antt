@@ -106,7 +106,7 @@ word_of (reply.NoMem id) = id
 abbrev pub ended_by : List Due → Reply → Option ℕ
 ended_by [] r = word_of r
 ended_by (answers other ∷ later) r = None
-ended_by (making id lineage ∷ later) r = None
+ended_by (making id lineage seed ∷ later) r = None
 ended_by (ending id ∷ later) r = Some id
 
 -- how often an id is this one: once or not
