@@ -64,11 +64,8 @@ impl Asked {
     {
         match self {
             Asked::Load(table) => table.fits(),
-            Asked::Over(_, _) => true,
-            Asked::Info(_) => true,
             Asked::View(_, view) => view.fits(),
-            Asked::Cancel(_) => true,
-            Asked::End => true,
+            Asked::Over(_, _) | Asked::Info(_) | Asked::Cancel(_) | Asked::End => true,
         }
     }
 }

@@ -11,10 +11,9 @@ ghost use Rattle.hv_message.specs.declared.asked.Asked.TheVariants as asked;
 ghost use Rattle.hv_message.specs.Meant.{HasFitFactors, HasFitNumbers, IsAnswer, Tells};
 ghost use Rattle.hv_message.specs.Messages as means;
 ghost use Rattle.hv_message.specs.Messages.{is_open};
-ghost use Rattle.hv_message.specs.Tables.{fits_table};
 ghost use Rattle.hv_message.specs.Views.{fits_view};
 
-use crate::asked::{Asked, TableAsked, TermAsked, ViewAsked};
+use crate::asked::{Asked, TermAsked, ViewAsked};
 use crate::fields::number;
 use crate::made::loaded;
 use crate::refused::Refused;
@@ -84,7 +83,7 @@ fn meaning(alloc: Global, state: &TalkState, id: u64, asked: Asked) -> Result<Me
     ensures { IsAnswer state.now id result (means.meaning state.now id asked) }
 {
     match asked {
-        Asked::Load(table) => load(alloc, state, id, table),
+        Asked::Load(table) => made_in(state, id, loaded(alloc, state.catalog(), table)?),
         Asked::Over(of, term) => over(alloc, state, id, of, term),
         Asked::Info(of) => info(state, id, of),
         Asked::View(of, wanted) => look(state, id, of, &wanted),
@@ -102,14 +101,6 @@ fn made_in(state: &TalkState, id: u64, made: Arc<Lineage>) -> Result<Message, Re
     } else {
         Err(Refused::Word(Why::Full))
     }
-}
-
-fn load(alloc: Global, state: &TalkState, id: u64, table: TableAsked) -> Result<Message, Refused>
-    requires { fits_table table ≡ true }
-    ensures { IsAnswer state.now id result (means.meaning state.now id (asked.Load table)) }
-{
-    let made = loaded(alloc, state.catalog(), table)?;
-    made_in(state, id, made)
 }
 
 fn over(
