@@ -1,4 +1,4 @@
--- Which tests and predicates take memory: this project's own rule.
+-- Which tests and predicates may take memory: all others never do. This project's own rule.
 use Rattle.std.specs.Prelude.{Bool, true, false, not, ◌&&◌}
 use Rattle.std.specs.List.{list_any}
 use Rattle.hv_expr.specs.declared.pred.Pred.{Pred, fold-Pred}

@@ -54,19 +54,23 @@ fn status_of(done: Result<(), IoErr>) -> u8
 /// Plays a script: reads it to its end, does its lines in order, answers the open requests, and gives
 /// the status. `words` are those after the program's name.
 pub fn play<I: Source, O: Sink>(alloc: Global, words: &[String], script: &mut I, out: &mut O) -> u8
-    // The headline: what was written is right for what was read, in every setting of 16 sessions over no tables.
+    // The headline: what was written is right for what was read, in every setting of 16 sessions
+    // over no tables.
     ensures done { result ≡ 0 → (g : Setting) → Suits g 16
-        → Traced g whole (I.left script.old) (I.left script.new) (O.taken out.old) (O.taken out.new) }
+        → Traced g whole (I.left script.old) (I.left script.new)
+        (O.taken out.old) (O.taken out.new) }
 
     // Each other status has its cause, and writes nothing or a right beginning.
     ensures usage { (result ≡ 2) ↔ (is_play words.now ≡ false) }
     ensures read_fault { result ≡ 3 → Rose (I.faults script.old) (I.faults script.new) }
     ensures write_fault { result ≡ 4 → Rose (O.faults out.old) (O.faults out.new) }
     ensures cut { result ≡ 4 → (g : Setting) → Suits g 16
-        → Traced g early (I.left script.old) (I.left script.new) (O.taken out.old) (O.taken out.new) }
+        → Traced g early (I.left script.old) (I.left script.new)
+        (O.taken out.old) (O.taken out.new) }
     ensures memory { result ≡ 5 → Keeps (O.taken out.old) (O.taken out.new)
         ⊎ ((g : Setting) → Suits g 16
-        → Traced g early (I.left script.old) (I.left script.new) (O.taken out.old) (O.taken out.new)) }
+        → Traced g early (I.left script.old) (I.left script.new)
+        (O.taken out.old) (O.taken out.new)) }
     ensures long { result ≡ 6 → ReadsPast (I.left script.old) (I.left script.new) 67108864 }
     ensures within { result ≡ 3 → ReadsWithin (I.left script.old) (I.left script.new) 67108864 }
     ensures unread { result ≡ 2 → script.new ≡ script.old }
