@@ -70,7 +70,8 @@ fn shown_of(alloc: Global, view: &AnyView, lineage: &Lineage) -> Mem<Shown>
     ensures { IfOk result (λ shown. (told : Told) → IsWhole told lineage.now (λ rows. IsView view.now rows shown)) }
 {
     let summary = summary_of(alloc, view, lineage)?;
-    finish(alloc, view, &summary)
+    let shown = finish(alloc, view, &summary)?;
+    Ok(shown)
 }
 
 /// A plan's value over all the rows of a lineage.
