@@ -45,7 +45,7 @@ IsField (Ok x) found = found ≡ Some x
 IsField (Err (Word word)) found = (found ≡ None) × (word ≡ why.Field)
 IsField (Err Memory) found = Unit {0}
 
--- the numbers of what is asked for have at most 64 bits
+-- an expression's factors and summands, and the number of a request that is to end, have at most 64 bits
 abbrev pub HasFitFactors : TermAsked → Type 0
 HasFitFactors (Filter p) = Unit {0}
 HasFitFactors (Project cols) = Unit {0}

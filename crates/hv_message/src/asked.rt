@@ -13,7 +13,7 @@ use hv_value::{Kind, Listed, MAX_PARTITIONS, Text};
 
 /// What an operation asks for. The numbers of objects and requests are any whole numbers of 64 bits.
 #[derive(Drop)]
-pub(crate) enum Asked {
+pub enum Asked {
     /// The object of a table.
     Load(TableAsked),
     /// A term over an object.
@@ -30,7 +30,7 @@ pub(crate) enum Asked {
 
 /// A table, before it is known whether its columns make a schema.
 #[derive(Drop)]
-pub(crate) enum TableAsked {
+pub enum TableAsked {
     /// Columns, and the CSV text of each partition.
     Inline(Listed<(Text, Kind)>, Listed<Text>),
     /// Columns, and the name of a table of the catalog.
@@ -39,7 +39,7 @@ pub(crate) enum TableAsked {
 
 /// What is put over a lineage, before its columns are looked up.
 #[derive(Drop)]
-pub(crate) enum TermAsked {
+pub enum TermAsked {
     /// The rows of which a predicate holds.
     Filter(Pred),
     /// The columns with these names.
@@ -50,7 +50,7 @@ pub(crate) enum TermAsked {
 
 /// A view, before its columns are looked up.
 #[derive(Drop)]
-pub(crate) enum ViewAsked {
+pub enum ViewAsked {
     /// The range of the column with this name.
     Range(Text),
     /// The least different values of the column with this name, so many of them.

@@ -1,7 +1,7 @@
 use Rattle.std.proofs.Common.{◌≡◌, ◌≤◌, ◌+◌, ◌∷◌, [], length}
-use Rattle.hv_play.specs.Run.{Setting, script}
+use Rattle.hv_play.specs.Run.{Setting, Suits, script}
 use Rattle.hv_play.specs.Script.{script_lines}
-use Rattle.hv_play.specs.Steps.{at, DoneSoFar, Suits}
+use Rattle.hv_play.specs.Steps.{at, DoneSoFar}
 use Rattle.hv_play.proofs.run.do_lines.Given as goal
 
 -- the lines before the rest are done, and there are no more of them than bytes
