@@ -151,12 +151,7 @@ fn look(state: &TalkState, id: u64, of: i128, wanted: &ViewAsked) -> Result<Mess
 }
 
 /// Opens a request while there is room for one more.
-fn opened_in(
-    state: &TalkState,
-    id: u64,
-    of: Arc<Lineage>,
-    plan: Plan,
-) -> Result<Message, Refused>
+fn opened_in(state: &TalkState, id: u64, of: Arc<Lineage>, plan: Plan) -> Result<Message, Refused>
     requires free { is_open id state.now.requests ≡ false }
     requires fits { FitsPlan plan (lineage_columns (arc_value of)) }
     ensures { IsAnswer state.now id result (means.opened_in state.now id (arc_value of) plan) }
