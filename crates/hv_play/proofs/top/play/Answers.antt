@@ -1,4 +1,4 @@
-use Rattle.std.proofs.Common.{◌≡◌, ◌∙◌, sym, subst, inr}
+use Rattle.std.proofs.Common.{◌∙◌, sym, subst, inr}
 use Rattle.hv_play.specs.Run.{whole, early, Setting, Suits}
 use Rattle.hv_play.specs.Steps.{Wrote}
 use Rattle.hv_play.proofs.PlayLemmas.{traced, when_done, when_failed, when_short}
