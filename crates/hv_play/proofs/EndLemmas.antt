@@ -1,10 +1,10 @@
 -- A run that leaves no duty leaves no request open.
-use Rattle.std.proofs.Common.{◌≡◌, ◌∙◌, sym, refl, ap, subst, ℕ, zero, suc, ◌+◌, List, [], ◌∷◌, ◌++◌, length, get_or, Bool, true, false, Option, Some, None, append-nil, inl, inr, arith}
+use Rattle.std.proofs.Common.{◌≡◌, ◌∙◌, sym, refl, ap, subst, ℕ, zero, suc, ◌+◌, List, [], ◌∷◌, ◌++◌, length, get_or, Bool, true, false, Option, None, append-nil, inl, inr, arith}
 use Rattle.std.proofs.lemmas.Bool.{or_parts, ltb-false}
 use Rattle.std.specs.List.{list_any}
 use Rattle.std.specs.Prelude.{◌⊎◌, nat_lt, if◌then◌else◌}
 use Rattle.hv_play.specs.Laws.{LeavesNothingOpen}
-use Rattle.hv_play.specs.Run.{Setting, State, Duty, script, drain, refusing, hearing, saying, ticking, treating, Event, Did, Does, Runs, stays, does, duties_of, round, drain_duties, is_anything_open, is_waiting}
+use Rattle.hv_play.specs.Run.{Setting, State, Duty, script, drain, refusing, hearing, saying, ticking, treating, Event, Did, Does, Runs, stays, does, duties_of, round, is_anything_open, is_waiting}
 use Rattle.hv_play.specs.Script.{line_of, script_lines}
 use Rattle.hv_session.specs.declared.request.OpenRequest.{OpenRequest}
 use Rattle.hv_session.specs.Talk.{Talk, new_talk}

@@ -13,3 +13,4 @@ pub mod TextLemmas
 pub mod ValueLemmas
 pub mod WordLemmas
 pub mod WorkedRows
+pub mod PlayLemmas

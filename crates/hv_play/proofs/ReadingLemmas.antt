@@ -1,6 +1,6 @@
 -- What a text may mean: a view's id is free, and what is cancelled is open.
 use Rattle.std.proofs.Common.{◌≡◌, refl, ℕ, pos, negsuc, List, Bool, true, false, Option, Some, None, Ok, Err}
-use Rattle.std.specs.Prelude.{nat_le, nat_lt, length, if◌then◌else◌, Result, codes}
+use Rattle.std.specs.Prelude.{if◌then◌else◌, Result, codes}
 use Rattle.serde_json.specs.Data.{Data}
 use Rattle.hv_lineage.specs.Lineages.{TermOver}
 use Rattle.hv_message.specs.declared.asked.Asked.{Asked}
@@ -9,7 +9,7 @@ use Rattle.hv_message.specs.declared.why.Why.{Why}
 use Rattle.hv_message.specs.declared.why.Why.TheVariants as why
 use Rattle.hv_message.specs.Fields.{text_at}
 use Rattle.hv_message.specs.Flaws.{and_then}
-use Rattle.hv_message.specs.Messages.{Known, Meaning, makes, tells, views, cancels, ends, Reading, means, malformed, asked, made_in, opened_in, object_at, of_known, is_open, cancelled, meaning, id_in, operation, checked, reading_of, with_id, object_of, reading_of_object, reading_of_value, reading}
+use Rattle.hv_message.specs.Messages.{Known, Meaning, makes, tells, views, cancels, ends, Reading, means, malformed, asked, made_in, opened_in, object_at, of_known, is_open, meaning, id_in, operation, checked, reading_of, with_id, object_of, reading_of_object, reading_of_value, reading}
 use Rattle.hv_message.specs.Tables.{loaded}
 
 -- what a session may do at once

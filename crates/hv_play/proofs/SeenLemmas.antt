@@ -7,13 +7,13 @@ use Rattle.std.specs.Prelude.{◌==◌, ◌≤◌, if◌then◌else◌, flat_map
 use Rattle.hv_lineage.specs.Flat.{Told}
 use Rattle.hv_member.specs.Sets.{numbers}
 use Rattle.hv_play.specs.declared.entry.Entry.{Entry}
-use Rattle.hv_play.specs.Laws.{AreTalksSeen, AreSeenTalksRight, HasRightTalks, brought_by, said_at, seen_talk, spoken, spoken_at, spoken_by}
+use Rattle.hv_play.specs.Laws.{AreTalksSeen, AreSeenTalksRight, brought_by, said_at, seen_talk, spoken, spoken_at, spoken_by}
 use Rattle.hv_play.specs.Run.{Setting, State, Duty, script, drain, refusing, hearing, saying, ticking, treating, Event, comes, written, Did, Does, SaysOwed, Treats, Runs, stays, does, whole, entries_of, duties_of, treatings, round, drain_duties, is_anything_open, talk_of}
 use Rattle.hv_play.specs.Script.{Line, empty, bad, hears, line_of, script_lines}
 use Rattle.hv_play.proofs.RunLemmas.{entries_of-append}
 use Rattle.hv_play.proofs.SpokenLemmas.{talks_right}
 use Rattle.hv_session.specs.declared.request.OpenRequest.{OpenRequest}
-use Rattle.hv_session.specs.Talk.{Due, Manner, Spoken, incoming, Talks, new_talk, request_with}
+use Rattle.hv_session.specs.Talk.{Due, Manner, Spoken, Talks, new_talk, request_with}
 
 -- ---- lists
 

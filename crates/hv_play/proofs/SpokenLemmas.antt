@@ -5,7 +5,7 @@ use Rattle.std.proofs.lemmas.Grind.{flat_map-append}
 use Rattle.std.proofs.lemmas.List.{get_or-set_same, get_or-set_other, length-set, get_or-replicate, length-replicate}
 use Rattle.std.specs.Prelude.{◌==◌, ◌≢◌, if◌then◌else◌, option_to_list}
 use Rattle.hv_session.specs.declared.request.OpenRequest.{OpenRequest}
-use Rattle.hv_session.specs.Talk.{Talk, Manner, new_talk, Due, due_reply, after_due, request_with, Spoken, incoming, outgoing, Says, Speaks, Talks}
+use Rattle.hv_session.specs.Talk.{Talk, Manner, new_talk, Due, request_with, Spoken, incoming, outgoing, Says, Speaks, Talks}
 use Rattle.hv_play.specs.Laws.{spoken_at, spoken, LeadsTalks, HasRightTalks}
 use Rattle.hv_play.specs.Run.{Setting, State, Duty, script, drain, refusing, hearing, saying, ticking, treating, Event, Did, Does, SaysOwed, Treats, stays, does, start, talk_of, with_talk}
 

@@ -1,7 +1,7 @@
 -- What the calls that do a line or answer a request have shown, put together.
-use Rattle.std.proofs.Common.{◌≡◌, ◌∙◌, sym, refl, ap, subst, ℕ, suc, ◌+◌, ◌≤◌, ◌<◌, List, [], ◌∷◌, ◌++◌, map, length, get_or, drop, Bool, true, false, Option, Some, None, append_assoc, append-nil, add-one, arith}
-use Rattle.std.proofs.lemmas.Bool.{eq-eqb, eqb-true, lt-ltb, ltb-true, ltb-false}
-use Rattle.std.specs.Prelude.{◌==◌, ◌||◌, ◌≢◌, nat_lt, if◌then◌else◌, cond, find, slice_set, replicate, Result, Ok, Err, OnOk, OnErr}
+use Rattle.std.proofs.Common.{◌≡◌, ◌∙◌, sym, refl, ap, subst, ℕ, suc, ◌+◌, ◌<◌, List, [], ◌∷◌, ◌++◌, map, length, get_or, drop, Bool, true, false, Option, Some, None, append_assoc, append-nil, add-one, arith}
+use Rattle.std.proofs.lemmas.Bool.{eqb-true, ltb-true, ltb-false}
+use Rattle.std.specs.Prelude.{◌==◌, ◌||◌, ◌≢◌, nat_lt, if◌then◌else◌, replicate, Result, Ok, Err, OnOk, OnErr}
 use Rattle.std.specs.List.{list_any}
 use Rattle.std.proofs.Math.ListN.{get_or-map}
 use Rattle.std.proofs.Math.Seq.{drop-cons, lt-length-set}
@@ -10,14 +10,12 @@ use Rattle.std.specs.Io.KnownBytes.{Appends}
 use Rattle.std.proofs.KnownBytes.{Appends-nil, Appends-trans}
 use Rattle.std.proofs.lemmas.List.FromFn.{length-range_with_len, get_or-range_with_len}
 use Rattle.hv_outer.specs.Turns.{AppendsFront}
-use Rattle.hv_message.specs.Messages.{without}
 use Rattle.hv_play.specs.declared.entry.BadLine.{BadLine}
 use Rattle.hv_play.specs.declared.entry.Entry.{Entry}
-use Rattle.hv_session.specs.declared.request.OpenRequest.{OpenRequest}
 use Rattle.hv_reply.specs.declared.reply.Reply.{Reply}
 use Rattle.hv_member.specs.Sets.{numbers}
 use Rattle.hv_session.specs.Held.{AnswersFirst}
-use Rattle.hv_session.specs.Talk.{Talk, new_talk, Due, Pays, Replies, after_due, due_reply, Hears, Says, Closes, closed, Manner}
+use Rattle.hv_session.specs.Talk.{Talk, new_talk, Due, Pays, Replies, after_due, due_reply, Hears, Closes, closed, Manner}
 use Rattle.hv_play.specs.Texts.{entries_text}
 use Rattle.hv_play.specs.Run.{State, Duty, script, drain, refusing, hearing, saying, ticking, treating, Event, comes, written, Does, SaysOwed, Treats, Runs, stays, does, entries_of, out, bad_entry, duties_of, treatings, is_waiting, is_anything_open, Setting, Suits, talk_of, with_talk, round, start, whole, early}
 use Rattle.serde_json.specs.Data.{Data}

@@ -1,15 +1,14 @@
 -- Each request that is opened has exactly one last word.
-use Rattle.std.proofs.Common.{◌≡◌, ◌∙◌, sym, refl, ap, subst, ℕ, suc, ◌+◌, ◌≤◌, ◌<◌, List, [], ◌∷◌, ◌++◌, length, map, take, drop, Bool, true, false, Option, Some, None, inl, inr, arith}
+use Rattle.std.proofs.Common.{◌≡◌, ◌∙◌, sym, refl, ap, subst, ℕ, suc, ◌+◌, ◌≤◌, List, [], ◌∷◌, ◌++◌, length, map, drop, Bool, true, false, Option, Some, None, inl, inr, arith}
 use Rattle.std.proofs.lemmas.Bool.{eqb-true, eq-eqb, lt-ltb, ltb-true, ltb-false, or_parts}
 use Rattle.std.proofs.lemmas.List.Elements.{filter-append}
 use Rattle.std.proofs.lemmas.List.{length-append}
 use Rattle.std.specs.List.{filter, list_any, position_or_len}
-use Rattle.std.specs.Prelude.{◌==◌, ◌||◌, ◌⊎◌, if◌then◌else◌, cond, not, nat_lt, find, position}
+use Rattle.std.specs.Prelude.{◌==◌, ◌||◌, if◌then◌else◌, cond, not, nat_lt, find}
 use Rattle.hv_message.specs.Messages.{makes, tells, views, cancels, ends, Reading, means, malformed, reading, is_open, without}
 use Rattle.hv_reply.specs.declared.reply.Reply.{Reply}
-use Rattle.hv_reply.specs.declared.reply.Reply.TheVariants as reply
 use Rattle.hv_session.specs.declared.request.OpenRequest.{OpenRequest}
-use Rattle.hv_session.specs.Talk.{Talk, new_talk, known, Hearing, served, refused, heard, after_reading, Due, answers, making, ending, after_due, closed, Hears, Says, Answers, Closes, Manner, Spoken, incoming, outgoing, Talks}
+use Rattle.hv_session.specs.Talk.{Talk, new_talk, known, Hearing, served, refused, heard, after_reading, Due, answers, making, ending, after_due, closed, Hears, Says, Answers, Manner, Spoken, incoming, outgoing, Talks}
 use Rattle.hv_value.specs.Catalog.{Tables}
 use Rattle.hv_lineage.specs.Flat.{Told}
 use Rattle.hv_play.specs.Laws.{HasEachLastWord, HasOneLastWord, ended_by, last_words, open_with, opened_by, openings, times, word_of}

@@ -1,5 +1,5 @@
 -- Worked rows: scripts and the outputs that the definition of a right output gives for them, computed from bytes to bytes.
-use Rattle.std.proofs.Common.{◌≡◌, ◌∙◌, refl, sym, ap, subst, ℕ, pos, negsuc, List, [], ◌∷◌, drop, map, true, Option, Some, None, codes, arith, rules}
+use Rattle.std.proofs.Common.{◌≡◌, ◌∙◌, refl, sym, ap, subst, ℕ, pos, negsuc, List, [], ◌∷◌, drop, map, Option, Some, None, codes, arith, rules}
 use Rattle.std.specs.Prelude.{MatchOption, option_map, slice_set}
 use Rattle.std.specs.List.{filter_map}
 use Rattle.std.specs.Str.{is_utf8, chars}
@@ -49,9 +49,8 @@ use Rattle.hv_session.specs.declared.request.OpenRequest.{OpenRequest}
 use Rattle.hv_session.specs.Talk.{Talk, IsFinal, answers, ending, known, making, new_talk}
 use Rattle.hv_play.specs.declared.entry.BadLine.TheVariants as bad_line
 use Rattle.hv_play.specs.declared.entry.Entry.{Entry}
-use Rattle.hv_play.specs.Run.{script, drain, Event, comes, written, out, bad_entry, whole, early, IsTrace}
+use Rattle.hv_play.specs.Run.{script, Event, comes, written, out, bad_entry, whole, early, IsTrace}
 use Rattle.hv_play.specs.Script.{line_of, empty, hears, bad, script_lines}
-use Rattle.hv_play.specs.Steps.{at}
 use Rattle.hv_play.specs.Texts.{entry_text, entries_text}
 use Rattle.hv_play.proofs.RowSteps.{a_line, no_line, a_bad_line, a_text, what_is_owed, nothing_owed, a_round, a_tick, idle_ticks, no_round, an_answer, row, begun, Goes, no_tables, session, sixteen_sessions, new_talks}
 

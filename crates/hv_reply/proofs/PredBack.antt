@@ -21,9 +21,6 @@ use Rattle.hv_expr.specs.declared.pred.Pred.{Pred, fold-Pred, ind-Pred, map-Pred
 use Rattle.hv_expr.specs.declared.pred.Pred.TheOpen.{Pred-F}
 use Rattle.hv_expr.specs.declared.pred.Pred.TheVariants as pred
 use Rattle.hv_expr.specs.declared.pred.Rel.{Rel}
-use Rattle.hv_expr.specs.declared.pred.Rel.TheVariants as rel
-use Rattle.hv_expr.specs.declared.text_test.How.{How}
-use Rattle.hv_expr.specs.declared.text_test.How.TheVariants as how
 use Rattle.hv_expr.specs.declared.text_test.TextTest.{TextTest}
 use Rattle.hv_expr.specs.Checks.{cmp_faults, first_fault, kind_of_cell, kind_of_column, pred_fault, pred_faults, pred_node_faults}
 use Rattle.hv_expr.specs.Sizes.{greatest, pred_depth, pred_measure, pred_nodes}

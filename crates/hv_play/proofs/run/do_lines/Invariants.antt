@@ -1,4 +1,4 @@
-use Rattle.std.proofs.Common.{◌≡◌, ◌≤◌, ◌+◌, ◌∷◌, [], length}
+use Rattle.std.proofs.Common.{◌≤◌, ◌+◌, ◌∷◌, [], length}
 use Rattle.hv_play.specs.Run.{Setting, Suits, script}
 use Rattle.hv_play.specs.Script.{script_lines}
 use Rattle.hv_play.specs.Steps.{at, DoneSoFar}

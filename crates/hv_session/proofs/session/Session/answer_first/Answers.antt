@@ -1,4 +1,4 @@
-use Rattle.std.proofs.Common.{◌≡◌, ◌∙◌, ◌∷◌, [], sym, ap}
+use Rattle.std.proofs.Common.{◌≡◌, ◌∙◌, ◌∷◌, sym, ap}
 use Rattle.std.specs.Prelude.{slice_get}
 use Rattle.hv_session.specs.Held.{Held, talk_held}
 use Rattle.hv_session.proofs.FirstLemmas.{headed}
