@@ -1,6 +1,7 @@
 #!/usr/bin/env bash
-# What the range and the distinct values of a column cost over 1,000,000 rows on one thread, as multiples of one plain loop: a plain Rust program
-# (plain_range.rs) that takes the range over the same whole numbers and their marks of missing cells, in the same run.
+# What the range and the distinct values of a column cost over 1,000,000 rows on one thread, as multiples of one plain
+# loop: a plain Rust program (plain_range.rs) that takes the range over the same whole numbers and their marks of missing
+# cells, in the same run.
 #
 # Has a small program over hv_part's table summarize one column of whole numbers, one in 16 of them missing, by hv_range's
 # views: of all rows, and of a table that was filtered to half of them, whose rows are listed. Checks each range against the
