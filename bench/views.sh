@@ -1,13 +1,14 @@
 #!/usr/bin/env bash
-# What the range and the distinct values of a column cost over 1,000,000 rows on one thread, as multiples of one plain
-# loop: a plain Rust program (plain_range.rs) that takes the range over the same whole numbers and their marks of missing
-# cells, in the same run.
+# What views cost over 1,000,000 rows on one thread, as multiples of one plain loop: a plain Rust program (plain_range.rs)
+# that takes the range over the same whole numbers and their marks of missing cells, in the same run.
 #
-# Has a small program over hv_part's table summarize one column of whole numbers, one in 16 of them missing, by hv_range's
-# views: of all rows, and of a table that was filtered to half of them, whose rows are listed. Checks each range against the
-# plain program's, and prints the nanoseconds a row, the best of the passes of five runs. Targets: the range of all rows at
-# most 1.5 plain loops, that of half the rows at most 3 plain loops a kept row. Ends with 1 where an answer is wrong, or a
-# target is missed by more than half.
+# Has a small program over hv_part's table, of a column of whole numbers, one in 16 of them missing, and one of eight short
+# texts, take the range, the distinct values and a histogram of the numbers, a heat map of them by the texts with four
+# left boundaries, and a trellis of histograms by eight buckets of the numbers: of all rows, and of a table that was
+# filtered to half of them, whose rows are listed. Checks each range against the plain program's and each chart's counts
+# against plain Python's, and prints the nanoseconds a row, the best of the passes of five runs. Targets: of all rows the
+# range at most 1.5 plain loops, the histogram 2.5, the heat map 8, the trellis 7; the range of half the rows at most 3 plain
+# loops a kept row. Ends with 1 where an answer is wrong, or a target is missed by more than half.
 #
 # The program is made, proved and built in a temporary folder, over copies of the crates; with a folder as its
 # argument, in that folder, which stays.
@@ -23,7 +24,7 @@ else
     work=$(mktemp -d) || exit 1
     trap 'rm -rf "$work"' EXIT
 fi
-crates="hv_value hv_member hv_column hv_part hv_sketch hv_range"
+crates="hv_value hv_member hv_column hv_part hv_sketch hv_range hv_bucket hv_hist hv_grid"
 
 make_program() {
     mkdir -p "$work/repo/crates" && cd "$work/repo" && git init -q . || return 1
@@ -31,13 +32,13 @@ make_program() {
         sed -n "/^$crate:/p" "$1/crates.txt" >> crates.txt
         mkdir "crates/$crate" && cp -r "$1/crates/$crate/src" "$1/crates/$crate/specs" "$1/crates/$crate/proofs" "crates/$crate/"
     done
-    sed -n 's/^hv_range: hv_value hv_sketch/views: hv_value hv_member hv_column hv_part hv_sketch hv_range/p' "$1/crates.txt" >> crates.txt
-    mkdir -p crates/views/src crates/views/specs crates/views/proofs/numbers crates/views/proofs/half
+    sed -n "s/^hv_range: hv_value hv_sketch/views: $crates/p" "$1/crates.txt" >> crates.txt
+    mkdir -p crates/views/src crates/views/specs crates/views/proofs/numbers crates/views/proofs/carriers crates/views/proofs/half
     : > crates/views/specs/Lib.antt
     : > crates/views/proofs/Lib.antt
     cat > crates/views/src/main.rt <<'RT'
-//! Takes views of a column of whole numbers, over all rows and over half of them, in fifteen passes. Prints for each what
-//! it is, the nanoseconds of the best pass, and its value.
+//! Takes views of a column of whole numbers and one of texts, over all rows and over half of them, in fifteen passes.
+//! Prints for each the rows, the nanoseconds of the best pass, and its value, of a chart a digest of its counts.
 #![tactic(auto)]
 
 ghost use Rattle.std.specs.Prelude.{◌≡◌, ◌≤◌, ◌∷◌, [], length, map, true, IfOk};
@@ -45,11 +46,14 @@ ghost use Rattle.std.specs.Arc.{arc_value};
 ghost use Rattle.hv_value.specs.Cells.{cell_lent, is_of_kind};
 ghost use Rattle.hv_value.specs.declared.cell.Kind.TheVariants as kind;
 
+use hv_bucket::{Axis, Buckets, IntBuckets, TextBuckets};
 use hv_column::Column;
+use hv_grid::{ByAxis, HeatMap, Trellis};
+use hv_hist::Histogram;
 use hv_member::Member;
 use hv_part::PartTable;
 use hv_range::{Distinct, Range, RangeSummary};
-use hv_sketch::Vizketch;
+use hv_sketch::{Counts, Vizketch};
 use hv_value::{Cell, CellRef, Kind, Mem, Memory, Schema, Table, Text};
 use std::alloc::Global;
 use std::env;
@@ -74,11 +78,26 @@ fn cell_of(state: u64) -> CellRef<'static>
     }
 }
 
+fn carrier_of(state: u64) -> CellRef<'static>
+    ensures { is_of_kind kind.Text (cell_lent result) ≡ true }
+{
+    CellRef::Text(match state / 1_099_511_627_776 % 8 {
+        0 => "AA",
+        1 => "AS",
+        2 => "B6",
+        3 => "DL",
+        4 => "F9",
+        5 => "HA",
+        6 => "UA",
+        _ => "WN",
+    })
+}
+
 fn is_kept(state: u64) -> bool {
     state / 4_294_967_296 % 2 == 0
 }
 
-/// The column, a cell for each state of the generator.
+/// The numbers, a cell for each state of the generator.
 fn numbers(alloc: Global, rows: u32) -> Mem<Arc<Column>>
     requires { rows ≤ MOST_ROWS }
     ensures kind { IfOk result (λ column. (arc_value column).kind ≡ kind.Int) }
@@ -90,6 +109,22 @@ fn numbers(alloc: Global, rows: u32) -> Mem<Arc<Column>>
         let _ = row;
         state = next(state);
         column.push(cell_of(state))?;
+    }
+    Ok(Arc::new(alloc, column)?)
+}
+
+/// The texts, a cell for each state of the generator.
+fn carriers(alloc: Global, rows: u32) -> Mem<Arc<Column>>
+    requires { rows ≤ MOST_ROWS }
+    ensures kind { IfOk result (λ column. (arc_value column).kind ≡ kind.Text) }
+    ensures length { IfOk result (λ column. length (arc_value column).cells ≡ rows) }
+{
+    let mut column = Column::new(alloc, Kind::Text)?;
+    let mut state = 1;
+    for row in 0..rows {
+        let _ = row;
+        state = next(state);
+        column.push(carrier_of(state))?;
     }
     Ok(Arc::new(alloc, column)?)
 }
@@ -109,11 +144,12 @@ fn half(alloc: Global, rows: u32) -> Mem<Member>
     Member::from_rows(rows, found)
 }
 
-fn schema_of_x(alloc: Global) -> Mem<Schema>
-    ensures { IfOk result (λ schema. map (λ column. column.1) schema ≡ kind.Int ∷ []) }
+fn schema_of(alloc: Global) -> Mem<Schema>
+    ensures { IfOk result (λ schema. map (λ column. column.1) schema ≡ kind.Int ∷ kind.Text ∷ []) }
 {
     let mut columns = Vec::new(alloc);
     columns.push((Text::of(alloc, "x")?, Kind::Int))?;
+    columns.push((Text::of(alloc, "t")?, Kind::Text))?;
     Schema::new(columns).map_err(|_| Memory)
 }
 
@@ -123,7 +159,30 @@ fn table_of(alloc: Global, rows: u32, member: Member) -> Mem<PartTable>
 {
     let mut columns = Vec::new(alloc);
     columns.push(numbers(alloc, rows)?)?;
-    Ok(PartTable::new(schema_of_x(alloc)?, 0, columns, member))
+    columns.push(carriers(alloc, rows)?)?;
+    Ok(PartTable::new(schema_of(alloc)?, 0, columns, member))
+}
+
+/// So many buckets of the numbers; one number in ten is outside.
+fn by_number(n: u32) -> Mem<Axis> {
+    let buckets = IntBuckets::new(-900_000_000, 900_000_000, n).map_err(|_| Memory)?;
+    Ok(Axis {
+        col: 0,
+        buckets: Buckets::Int(buckets),
+    })
+}
+
+/// The texts by four left boundaries; the first of the texts is below them.
+fn by_carrier(alloc: Global) -> Mem<Axis> {
+    let mut bounds = Vec::new(alloc);
+    for bound in ["AS", "DL", "UA", "WN"].as_slice() {
+        bounds.push(Text::of(alloc, bound)?)?;
+    }
+    let buckets = TextBuckets::new(bounds).map_err(|_| Memory)?;
+    Ok(Axis {
+        col: 1,
+        buckets: Buckets::Text(buckets),
+    })
 }
 
 /// The nanoseconds of the best of fifteen passes, and the summary.
@@ -168,7 +227,51 @@ fn show_views<T: Table>(rt: &HostRuntime, rows: &str, table: &T) -> io::Result<(
         return println!(rt; "no memory");
     };
     let count = distinct.values.as_slice().len();
-    println!(rt; "{rows} {best} {count} {}", u8::from(distinct.more))
+    println!(rt; "{rows} {best} {count} {}", u8::from(distinct.more))?;
+    show_chart(rt, rows, histogram(rt, table))?;
+    show_chart(rt, rows, heat_map(rt, table))?;
+    show_chart(rt, rows, trellis(rt, table))
+}
+
+/// Counts in their order as one number, after others.
+fn digest(before: u64, counts: &Counts) -> u64 {
+    let mut digest = before;
+    for count in counts.as_slice() {
+        digest = digest.wrapping_mul(31).wrapping_add(*count);
+    }
+    digest
+}
+
+/// The nanoseconds of a histogram of 100 buckets, and the digest of its counts.
+fn histogram<T: Table>(rt: &HostRuntime, table: &T) -> Mem<(u128, u64)> {
+    let view = Histogram::new(by_number(100)?);
+    let (best, counts) = measured(rt, &view, table)?;
+    Ok((best, digest(0, &counts)))
+}
+
+/// The same of a heat map, of 20 buckets of numbers by the texts.
+fn heat_map<T: Table>(rt: &HostRuntime, table: &T) -> Mem<(u128, u64)> {
+    let view = HeatMap::new(by_number(20)?, by_carrier(rt.alloc())?);
+    let (best, counts) = measured(rt, &view, table)?;
+    Ok((best, digest(0, &counts)))
+}
+
+/// The same of a trellis, of a histogram for each of eight buckets.
+fn trellis<T: Table>(rt: &HostRuntime, table: &T) -> Mem<(u128, u64)> {
+    let view = Trellis::new(ByAxis(by_number(8)?), Histogram::new(by_number(100)?));
+    let (best, summary) = measured(rt, &view, table)?;
+    let mut found = 0;
+    for counts in summary.groups() {
+        found = digest(found, counts);
+    }
+    Ok((best, found.wrapping_mul(31).wrapping_add(summary.rest())))
+}
+
+fn show_chart(rt: &HostRuntime, rows: &str, chart: Mem<(u128, u64)>) -> io::Result<()> {
+    match chart {
+        Ok((best, digest)) => println!(rt; "{rows} {best} {digest}"),
+        Err(_) => println!(rt; "no memory"),
+    }
 }
 
 fn whole_table(alloc: Global, rows: u32) -> Mem<PartTable>
@@ -210,6 +313,7 @@ use Rattle.views.proofs.numbers.Given as goal
 abbrev pub invariant-loop-row : goal.invariant-loop-row
 invariant-loop-row l = (l.column.kind ≡ kind.Int) × (length l.column.cells ≡ l.row)
 ANTT
+    sed -e 's/kind.Int/kind.Text/' -e 's/views.proofs.numbers/views.proofs.carriers/' crates/views/proofs/numbers/Invariants.antt > crates/views/proofs/carriers/Invariants.antt
     cat > crates/views/proofs/half/Invariants.antt <<'ANTT'
 use Rattle.hv_member.specs.Sets.{IsSetBelow}
 use Rattle.views.proofs.half.Given as goal
@@ -243,44 +347,82 @@ cat > "$work/measure.py" <<'PY'
 import subprocess, sys
 views, plain = sys.argv[1:]
 ROWS, RUNS = 1_000_000, 5
-WHOLE, HALF = 1.5, 3.0
+LO, HI = -900_000_000, 900_000_000
+VIEWS = ["range", "distinct", "histogram", "heat map", "trellis"]
+TARGETS = {("range", "all"): 1.5, ("histogram", "all"): 2.5, ("heat map", "all"): 8, ("trellis", "all"): 7, ("range", "half"): 3}
+
+def rows():
+    """The number of each row or None, the place of its text among eight, and whether it is kept."""
+    state = 1
+    for _ in range(ROWS):
+        state = (state * 6364136223846793005 + 1442695040888963407) % 2**64
+        word = state >> 16
+        yield (word % 2_000_000_001 - 10**9 if word % 16 else None), (state >> 40) % 8, (state >> 32) % 2 == 0
+
+def bucket(x, n):
+    """The bucket of a number, n where it is outside, n + 1 where it is missing."""
+    return n + 1 if x is None else (x - LO) * n // (HI - LO + 1) if LO <= x <= HI else n
+
+def charts(some):
+    """The counts of the histogram, the heat map and the trellis."""
+    histogram, heat, groups, rest = [0] * 102, [0] * 81, [[0] * 102 for _ in range(8)], 0
+    for x, text, _ in some:
+        place, column = bucket(x, 100), (None, 0, 0, 1, 1, 1, 2, 3)[text]
+        histogram[place] += 1
+        heat[80 if place >= 100 or column is None else bucket(x, 20) * 4 + column] += 1
+        if place < 100:
+            groups[bucket(x, 8)][place] += 1
+        else:
+            rest += 1
+    return histogram, heat, sum(groups, []) + [rest]
+
+def digest(counts):
+    found = 0
+    for count in counts:
+        found = (found * 31 + count) % 2**64
+    return found
 
 def lines_of(program):
     output = subprocess.run([program, str(ROWS)], stdout=subprocess.PIPE, check=True, text=True).stdout
     return [line.split() for line in output.splitlines()]
 
+all_rows = list(rows())
+kept_rows = [row for row in all_rows if row[2]]
+counts = {"all": len(all_rows), "half": len(kept_rows)}
+wanted = {
+    (view, name): [str(digest(found))]
+    for name, some in (("all", all_rows), ("half", kept_rows))
+    for view, found in zip(VIEWS[2:], charts(some), strict=True)
+}
 best = {}
 def note(name, took):
     best[name] = min(took, best.get(name, took))
 
 for _ in range(RUNS):
-    loops = lines_of(plain)
+    loops = {name: (took, ranged) for name, took, *ranged in lines_of(plain)}
     shown = lines_of(views)
-    if [line[0] for line in shown] != ["all", "all", "half", "half"]:
+    if [line[0] for line in shown] != [name for name in counts for _ in VIEWS]:
         sys.exit("views.sh: the views gave no values")
-    for (rows, took, *value), loop in zip((shown[0], shown[2]), loops, strict=True):
-        if value != loop[2:]:
-            sys.exit(f"views.sh: the range of {rows} rows is wrong")
-        note(("range", rows), int(took))
-        note(("loop", rows), int(loop[1]))
-        kept = int(value[0]) + int(value[1])
-    for rows, took, count, more in (shown[1], shown[3]):
-        if (count, more) != ("500", "1"):
-            sys.exit(f"views.sh: the distinct values of {rows} rows are wrong")
-        note(("distinct", rows), int(took))
+    for view, (name, took, *value) in zip(VIEWS * 2, shown, strict=True):
+        loop, ranged = loops[name]
+        if value != {"range": ranged, "distinct": ["500", "1"]}.get(view, wanted.get((view, name))):
+            sys.exit(f"views.sh: the {view} of {name} rows is wrong")
+        note((view, name), int(took))
+        note(("loop", name), int(loop))
 
-counts = {"all": ROWS, "half": kept}
 loop = best["loop", "all"] / ROWS
-print(f"one plain loop: {loop:.2f} nanoseconds a row; over a list of half the rows {best['loop', 'half'] / kept:.2f} a kept row")
+print(f"one plain loop: {loop:.2f} nanoseconds a row; over a list of half the rows {best['loop', 'half'] / counts['half']:.2f} a kept row")
 failed = False
-for (view, rows), target in {("range", "all"): WHOLE, ("range", "half"): HALF, ("distinct", "all"): None, ("distinct", "half"): None}.items():
-    each = best[view, rows] / counts[rows]
-    times = each / loop
-    line = f"{view} of {rows} rows: {each:.2f} nanoseconds a row, {times:.2f} plain loops"
-    if target is not None:
-        line += f"; target of {target}: " + ("met" if times <= target else "MISSED")
-        failed |= times > 1.5 * target
-    print(line)
+for name in counts:
+    for view in VIEWS:
+        each = best[view, name] / counts[name]
+        times = each / loop
+        line = f"{view} of {name} rows: {each:.2f} nanoseconds a row, {times:.2f} plain loops"
+        target = TARGETS.get((view, name))
+        if target is not None:
+            line += f"; target of {target}: " + ("met" if times <= target else "MISSED")
+            failed |= times > 1.5 * target
+        print(line)
 sys.exit(1 if failed else 0)
 PY
 python3 "$work/measure.py" "$work/repo/crates/views/out/views" "$work/plain"
