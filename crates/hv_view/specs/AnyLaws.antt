@@ -3,6 +3,7 @@ use Rattle.std.proofs.Common.{List, ◌++◌, ◌∙◌}
 use Rattle.hv_value.specs.Rows.{Row}
 use Rattle.hv_range.specs.DistinctLaws.{distinct_of-swap}
 use Rattle.hv_range.specs.RangeLaws.{IsRange-swap}
+use Rattle.hv_sketch.specs.TallyLaws.{IsTally-swap}
 use Rattle.hv_view.specs.declared.any_view.AnyView.{AnyView}
 use Rattle.hv_view.specs.declared.any_view.AnyView.TheVariants as view
 use Rattle.hv_view.specs.declared.any_summary.AnySummary.{AnySummary}
@@ -14,4 +15,6 @@ pub StandsForAny-swap : (v : AnyView) (a b c : List Row) (s : AnySummary) → St
 unfolding StandsForAny
 StandsForAny-swap (view.Range range) a b c (summary.Range s) h = IsRange-swap range.kind range.col a b c s h
 StandsForAny-swap (view.Distinct distinct) a b c (summary.Distinct s) h = h ∙ distinct_of-swap distinct.col distinct.k a b c
+StandsForAny-swap (view.Histogram histogram) a b c (summary.Histogram s) h = IsTally-swap _ _ a b c s h
+StandsForAny-swap (view.Cdf cdf) a b c (summary.Cdf s) h = IsTally-swap _ _ a b c s h
 StandsForAny-swap _ a b c _ h = h

@@ -3,6 +3,7 @@ use Rattle.std.specs.Prelude.{◌≡◌, ℤ, List, Option, Some, None}
 use Rattle.hv_value.specs.Rows.{Row}
 use Rattle.hv_value.specs.declared.cell.Kind.{Kind}
 use Rattle.hv_value.specs.declared.cell.Kind.TheVariants as kind
+use Rattle.hv_hist.specs.Histogram.{cdf_of, histogram_of}
 use Rattle.hv_range.specs.Distinct.{distinct_of}
 use Rattle.hv_range.specs.Range.{range_of}
 use Rattle.hv_range.specs.declared.summary.RangeSummary.{RangeSummary}
@@ -18,11 +19,6 @@ sum_shown kind.Int sum = Some sum
 sum_shown kind.Date sum = None
 sum_shown kind.Text sum = None
 
--- and no other view has one
-abbrev pub sum_of : AnyView → ℤ → Option ℤ
-sum_of (view.Range range) sum = sum_shown range.kind sum
-sum_of (view.Distinct distinct) sum = None
-
 -- a range as it is shown for a column of a kind: count, greatest, least, missing, sum
 abbrev pub range_shown : Kind → RangeSummary → Shown
 range_shown k range = shown.Range range.count range.greatest range.least range.missing (sum_shown k range.sum)
@@ -35,3 +31,5 @@ distinct_shown distinct = shown.Distinct distinct.more distinct.values
 abbrev pub IsView : AnyView → List Row → Shown → Type 0
 IsView (view.Range range) rows value = value ≡ range_shown range.kind (range_of range.col rows)
 IsView (view.Distinct distinct) rows value = value ≡ distinct_shown (distinct_of distinct.col distinct.k rows)
+IsView (view.Histogram histogram) rows value = value ≡ shown.Histogram (histogram_of histogram.axis rows)
+IsView (view.Cdf cdf) rows value = value ≡ shown.Cdf (cdf_of cdf.histogram.axis rows)

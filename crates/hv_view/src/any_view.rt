@@ -8,6 +8,7 @@ ghost use Rattle.hv_value.specs.SameLaws.{same_by-decides, same_by-equiv};
 ghost use Rattle.hv_view.specs.Keys.{view_writes};
 
 use crate::AnySummary;
+use hv_hist::{Cdf, Histogram};
 use hv_range::{Distinct, Range};
 use hv_sketch::Vizketch;
 use hv_value::{Mem, Schema, Table};
@@ -19,16 +20,20 @@ use std::hash::{Hash, Hasher};
 pub enum AnyView {
     Range(Range),
     Distinct(Distinct),
+    Histogram(Histogram),
+    Cdf(Cdf),
 }
 
 impl AnyView {
     /// An equal view.
-    pub fn copied(&self, _alloc: Global) -> Mem<AnyView>
+    pub fn copied(&self, alloc: Global) -> Mem<AnyView>
         ensures { IfOk result (λ view. view ≡ self.now) }
     {
         Ok(match self {
             AnyView::Range(view) => AnyView::Range(*view),
             AnyView::Distinct(view) => AnyView::Distinct(*view),
+            AnyView::Histogram(view) => AnyView::Histogram(view.copied(alloc)?),
+            AnyView::Cdf(view) => AnyView::Cdf(view.copied(alloc)?),
         })
     }
 
@@ -39,6 +44,8 @@ impl AnyView {
         match (self, other) {
             (AnyView::Range(view), AnyView::Range(other)) => view == other,
             (AnyView::Distinct(view), AnyView::Distinct(other)) => view == other,
+            (AnyView::Histogram(view), AnyView::Histogram(other)) => view.same(other),
+            (AnyView::Cdf(view), AnyView::Cdf(other)) => view.same(other),
             _ => false,
         }
     }
@@ -82,6 +89,14 @@ impl Hash for AnyView {
                 state.write_u32(view.col);
                 state.write_u32(view.k);
             }
+            AnyView::Histogram(view) => {
+                state.write_u8(2);
+                view.axis.hash(state);
+            }
+            AnyView::Cdf(view) => {
+                state.write_u8(3);
+                view.histogram.axis.hash(state);
+            }
         }
     }
 }
@@ -102,6 +117,8 @@ impl Vizketch for AnyView {
         match self {
             AnyView::Range(view) => view.fits(schema),
             AnyView::Distinct(view) => view.fits(schema),
+            AnyView::Histogram(view) => view.fits(schema),
+            AnyView::Cdf(view) => view.fits(schema),
         }
     }
 
@@ -110,6 +127,8 @@ impl Vizketch for AnyView {
         Ok(match self {
             AnyView::Range(view) => AnySummary::Range(view.zero(alloc)?),
             AnyView::Distinct(view) => AnySummary::Distinct(view.zero(alloc)?),
+            AnyView::Histogram(view) => AnySummary::Histogram(view.zero(alloc)?),
+            AnyView::Cdf(view) => AnySummary::Cdf(view.zero(alloc)?),
         })
     }
 
@@ -118,6 +137,8 @@ impl Vizketch for AnyView {
         Ok(match self {
             AnyView::Range(view) => AnySummary::Range(view.summarize(alloc, table)?),
             AnyView::Distinct(view) => AnySummary::Distinct(view.summarize(alloc, table)?),
+            AnyView::Histogram(view) => AnySummary::Histogram(view.summarize(alloc, table)?),
+            AnyView::Cdf(view) => AnySummary::Cdf(view.summarize(alloc, table)?),
         })
     }
 
@@ -128,6 +149,12 @@ impl Vizketch for AnyView {
                 view.merge_into(alloc, acc, d)
             }
             (AnyView::Distinct(view), AnySummary::Distinct(acc), AnySummary::Distinct(d)) => {
+                view.merge_into(alloc, acc, d)
+            }
+            (AnyView::Histogram(view), AnySummary::Histogram(acc), AnySummary::Histogram(d)) => {
+                view.merge_into(alloc, acc, d)
+            }
+            (AnyView::Cdf(view), AnySummary::Cdf(acc), AnySummary::Cdf(d)) => {
                 view.merge_into(alloc, acc, d)
             }
             _ => unreachable!(),
@@ -141,6 +168,10 @@ impl Vizketch for AnyView {
             (AnyView::Distinct(view), AnySummary::Distinct(s)) => {
                 AnySummary::Distinct(view.copy(alloc, s)?)
             }
+            (AnyView::Histogram(view), AnySummary::Histogram(s)) => {
+                AnySummary::Histogram(view.copy(alloc, s)?)
+            }
+            (AnyView::Cdf(view), AnySummary::Cdf(s)) => AnySummary::Cdf(view.copy(alloc, s)?),
             // a summary of another view stands for no rows, and so may what is answered
             _ => return self.zero(alloc),
         })

@@ -3,9 +3,10 @@
 ghost use Rattle.std.specs.Prelude.{◌≡◌, List, IfOk};
 ghost use Rattle.hv_value.specs.Rows.{Row};
 ghost use Rattle.hv_view.specs.Stands.{StandsForAny};
-ghost use Rattle.hv_view.specs.View.{IsView, sum_of};
+ghost use Rattle.hv_view.specs.View.{IsView, sum_shown};
 
 use crate::{AnySummary, AnyView};
+use hv_hist::{CdfShown, HistogramShown};
 use hv_sketch::copied_cells;
 use hv_value::{Cell, Kind, Listed, Mem};
 use std::alloc::Global;
@@ -27,6 +28,10 @@ pub enum Shown {
         more: bool,
         values: Listed<Cell>,
     },
+    /// Of a histogram: how many rows are in each bucket, and how many cells are missing or in no bucket.
+    Histogram(HistogramShown),
+    /// Of a cumulative distribution: the running sums of a histogram's counts, and the rest as there.
+    Cdf(CdfShown),
 }
 
 impl Shown {
@@ -52,38 +57,48 @@ impl Shown {
                 more: *more,
                 values: copied_cells(alloc, values.as_slice())?,
             },
+            Shown::Histogram(value) => Shown::Histogram(value.copied(alloc)?),
+            Shown::Cdf(value) => Shown::Cdf(value.copied(alloc)?),
         })
     }
 }
 
-/// The value of a view over the rows for which a summary of it stands. A summary of another view stands for
-/// no rows, and is shown as it is, without a sum.
+/// The value of a view over the rows for which a summary of it stands. A summary of another view stands for no rows,
+/// and is shown as no values.
 #[tactic(auto, unfolding(crate::specs::Stands::StandsForAny))]
 pub fn finish(alloc: Global, view: &AnyView, s: &AnySummary) -> Mem<Shown>
     ensures { IfOk result (λ shown. (rows : List Row)
         → StandsForAny view.now rows s.now → IsView view.now rows shown) }
 {
-    Ok(match s {
-        AnySummary::Range(s) => Shown::Range {
+    Ok(match (view, s) {
+        (AnyView::Range(view), AnySummary::Range(s)) => Shown::Range {
             count: s.count,
             max: Cell::of(alloc, s.greatest.lent())?,
             min: Cell::of(alloc, s.least.lent())?,
             missing: s.missing,
-            sum: sum_shown(view, s.sum),
+            sum: sum_shown(view.kind, s.sum),
         },
-        AnySummary::Distinct(s) => Shown::Distinct {
+        (AnyView::Distinct(_), AnySummary::Distinct(s)) => Shown::Distinct {
             more: s.more,
             values: copied_cells(alloc, s.values.as_slice())?,
+        },
+        (AnyView::Histogram(view), AnySummary::Histogram(s)) => {
+            Shown::Histogram(view.value(alloc, s)?)
+        }
+        (AnyView::Cdf(view), AnySummary::Cdf(s)) => Shown::Cdf(view.value(alloc, s)?),
+        _ => Shown::Distinct {
+            more: false,
+            values: Listed::new(alloc),
         },
     })
 }
 
-/// The sum that is shown: that of a range of whole numbers.
-fn sum_shown(view: &AnyView, sum: i128) -> Option<i128>
-    ensures { result ≡ sum_of view.now sum }
+/// The sum that is shown of a column of a kind: that of whole numbers.
+fn sum_shown(kind: Kind, sum: i128) -> Option<i128>
+    ensures { result ≡ sum_shown kind sum }
 {
-    match view {
-        AnyView::Range(range) if range.kind == Kind::Int => Some(sum),
-        _ => None,
+    match kind {
+        Kind::Int => Some(sum),
+        Kind::Date | Kind::Text => None,
     }
 }
