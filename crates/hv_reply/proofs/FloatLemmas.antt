@@ -63,6 +63,8 @@ sum_plain (Some sum) = refl
 shown_plain : (s : Shown) → has_float (shown_data s) ≡ false
 shown_plain (shown.Range count greatest least missing sum) = rw (cell_plain greatest, cell_plain least, sum_plain sum) refl
 shown_plain (shown.Distinct more values) = rw (cells values) refl
+shown_plain (shown.Histogram histogram) = rw (wholes histogram.counts) refl
+shown_plain (shown.Cdf cdf) = rw (wholes cdf.sums) refl
 
 -- ---- columns and bases
 
