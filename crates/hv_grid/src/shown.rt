@@ -26,6 +26,50 @@ pub struct HeatMapShown {
     pub rest: u64,
 }
 
+impl StackedShown {
+    /// An equal stacked histogram.
+    pub fn copied(&self, alloc: Global) -> Mem<StackedShown>
+        ensures { IfOk result (λ copy. copy ≡ self.now) }
+    {
+        Ok(StackedShown {
+            counts: copied_rows(alloc, self.counts.as_slice())?,
+            missing: self.missing,
+            other: copied_counts(alloc, self.other.as_slice())?,
+            outside: self.outside,
+        })
+    }
+}
+
+impl HeatMapShown {
+    /// An equal heat map.
+    pub fn copied(&self, alloc: Global) -> Mem<HeatMapShown>
+        ensures { IfOk result (λ copy. copy ≡ self.now) }
+    {
+        Ok(HeatMapShown {
+            counts: copied_rows(alloc, self.counts.as_slice())?,
+            rest: self.rest,
+        })
+    }
+}
+
+/// Equal counts, in memory of their own.
+fn copied_counts(alloc: Global, counts: &[u64]) -> Mem<Listed<u64>>
+    ensures { IfOk result (λ copy. copy ≡ counts.now) }
+{
+    Ok(Listed::from_vec(Vec::from_slice(alloc, counts)?))
+}
+
+/// Equal rows of counts, in memory of their own.
+fn copied_rows(alloc: Global, rows: &[Listed<u64>]) -> Mem<Listed<Listed<u64>>>
+    ensures { IfOk result (λ copy. copy ≡ rows.now) }
+{
+    let mut copy = Listed::new(alloc);
+    for row in rows {
+        copy.push(copied_counts(alloc, row.as_slice())?)?;
+    }
+    Ok(copy)
+}
+
 /// The count of a slot, 0 where there is none.
 pub(crate) fn count_at(counts: &[u64], slot: usize) -> u64
     ensures { result ≡ get_or counts.now slot 0 }

@@ -9,9 +9,11 @@ ghost use Rattle.hv_value.specs.Civil.{text_of_day};
 ghost use Rattle.hv_value.specs.Days.{is_day_number};
 ghost use Rattle.hv_view.specs.declared.shown.Shown.TheVariants as shown;
 ghost use Rattle.hv_expr.specs.Checks.{is_fit_factor};
-ghost use Rattle.hv_reply.specs.Values.{cdf_data, cell_data, counts_data, day_data, histogram_data, list_of, shown_data, sum_data, whole, whole_or_null};
+ghost use Rattle.hv_reply.specs.Values.{cell_data, day_data, list_of, shown_data, sum_data, whole, whole_or_null};
 
-use hv_hist::{CdfShown, HistogramShown};
+use crate::charts::{
+    cdf_value, heat_map_value, heat_maps_value, histogram_value, histograms_value, stacked_value,
+};
 use hv_value::{Cell, Mem, date_text};
 use hv_view::Shown;
 use serde_json::{Value, json};
@@ -125,6 +127,12 @@ pub fn shown_value(alloc: Global, shown: &Shown) -> Mem<Value>
         }
         Shown::Histogram(histogram) => histogram_value(alloc, histogram),
         Shown::Cdf(cdf) => cdf_value(alloc, cdf),
+        Shown::Stacked(stacked) => stacked_value(alloc, stacked),
+        Shown::HeatMap(heat) => heat_map_value(alloc, heat),
+        Shown::TrellisHistogram { groups, rest } => {
+            histograms_value(alloc, groups.as_slice(), *rest)
+        }
+        Shown::TrellisHeatMap { groups, rest } => heat_maps_value(alloc, groups.as_slice(), *rest),
     }
 }
 
@@ -152,31 +160,4 @@ fn distinct_value(alloc: Global, more: bool, values: Value) -> Result<Value, All
         (member (codes "values") (view values) no_members))) }
 {
     json!(in alloc; {"more": more, "values": values})
-}
-
-/// Counts, in turn.
-fn counts_value(alloc: Global, counts: &[u64]) -> Mem<Value>
-    ensures { IfOk result (λ value. view value ≡ counts_data counts.now) }
-{
-    let mut list = Vec::with_capacity(alloc, counts.len())?;
-    for count in counts {
-        list.push(Value::from(*count))?;
-    }
-    Ok(Value::Array(list))
-}
-
-fn histogram_value(alloc: Global, histogram: &HistogramShown) -> Mem<Value>
-    ensures { IfOk result (λ value. view value ≡ histogram_data histogram.now) }
-{
-    let counts = counts_value(alloc, histogram.counts.as_slice())?;
-    Ok(
-        json!(in alloc; {"counts": counts, "missing": histogram.missing, "outside": histogram.outside})?,
-    )
-}
-
-fn cdf_value(alloc: Global, cdf: &CdfShown) -> Mem<Value>
-    ensures { IfOk result (λ value. view value ≡ cdf_data cdf.now) }
-{
-    let sums = counts_value(alloc, cdf.sums.as_slice())?;
-    Ok(json!(in alloc; {"missing": cdf.missing, "outside": cdf.outside, "sums": sums})?)
 }
