@@ -7,6 +7,8 @@ mod heat_map;
 mod shown;
 mod slots;
 mod stacked;
+#[cfg(test)]
+mod tests;
 
 pub use by_axis::{ByAxis, Trellis};
 pub use heat_map::HeatMap;
