@@ -5,7 +5,6 @@ use Rattle.serde_json.specs.Find.{get}
 use Rattle.hv_value.specs.declared.cell.Kind.{Kind}
 use Rattle.hv_value.specs.Schema.{Columns, column_place}
 use Rattle.hv_sketch.specs.Columns.{kind_at}
-use Rattle.hv_view.specs.declared.any_view.AnyView.{AnyView}
 use Rattle.hv_view.specs.declared.any_view.AnyView.TheVariants as any
 use Rattle.hv_view.specs.declared.plan.Plan.{Plan}
 use Rattle.hv_view.specs.declared.plan.Plan.TheVariants.{One}
@@ -13,7 +12,7 @@ use Rattle.hv_message.specs.declared.asked.ViewAsked.{ViewAsked}
 use Rattle.hv_message.specs.declared.asked.ViewAsked.TheVariants.{Range, Distinct}
 use Rattle.hv_message.specs.declared.why.Why.{Why}
 use Rattle.hv_message.specs.declared.why.Why.TheVariants as why
-use Rattle.hv_message.specs.Flaws.{and_then, of_field}
+use Rattle.hv_message.specs.Flaws.{map_ok, of_field}
 use Rattle.hv_message.specs.Fields.{integer_at, text_at}
 use Rattle.hv_message.specs.declared.limits.TheConstants.{MAX_DISTINCT}
 
@@ -46,24 +45,20 @@ fits_view (Distinct col k) = int_le (pos 1) k && int_le k (pos MAX_DISTINCT)
 
 -- ---- what it means
 
--- a view of a column of a kind
-abbrev pub of_kind : Option Kind → (Kind → AnyView) → Result AnyView Why
-of_kind None make = Err why.Column
-of_kind (Some k) make = Ok (make k)
+-- a column's place and kind, where it has one
+abbrev pub of_kind : ℕ → Option Kind → Result (ℕ × Kind) Why
+of_kind col None = Err why.Column
+of_kind col (Some k) = Ok (col, k)
 
--- the range of a column that is there
-abbrev pub range_over : Columns → ℕ → Result AnyView Why
-range_over columns col = of_kind (kind_at columns col) (λ k. any.Range (record { col = col; kind = k }))
+abbrev pub column_at : Columns → Option ℕ → Result (ℕ × Kind) Why
+column_at columns None = Err why.Column
+column_at columns (Some col) = of_kind col (kind_at columns col)
 
-abbrev pub view_at : Columns → Option ℕ → (ℕ → Result AnyView Why) → Result AnyView Why
-view_at columns None make = Err why.Column
-view_at columns (Some col) make = make col
+-- where the column with a name is, and of which kind it is
+abbrev pub column_named : Columns → List ℕ → Result (ℕ × Kind) Why
+column_named columns name = column_at columns (column_place name columns)
 
--- a view over columns, where its column is there
-abbrev pub viewed : Columns → ViewAsked → Result AnyView Why
-viewed columns (Range name) = view_at columns (column_place name columns) (range_over columns)
-viewed columns (Distinct name k) = view_at columns (column_place name columns) (λ col. Ok (any.Distinct (record { col = col; k = unsigned_abs k })))
-
--- the plan of its value: that of the one view
+-- the plan of its value over columns
 abbrev pub planned : Columns → ViewAsked → Result Plan Why
-planned columns asked = and_then (λ view. Ok (One view)) (viewed columns asked)
+planned columns (Range name) = map_ok (λ (column : ℕ × Kind). One (any.Range (record { col = column.0; kind = column.1 }))) (column_named columns name)
+planned columns (Distinct name k) = map_ok (λ (column : ℕ × Kind). One (any.Distinct (record { col = column.0; k = unsigned_abs k }))) (column_named columns name)
