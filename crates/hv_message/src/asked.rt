@@ -1,13 +1,15 @@
 //! What a message asks for, before anything is looked up, and its limits. The definitions are in specs/Messages.antt,
-//! specs/Tables.antt, specs/Terms.antt and specs/Views.antt.
+//! specs/Constants.antt, specs/Tables.antt, specs/Terms.antt and specs/Views.antt.
 
 ghost use Rattle.std.specs.Prelude.{◌≡◌};
 ghost use Rattle.std.specs.List.{list_all};
+ghost use Rattle.hv_message.specs.Constants as constant;
 ghost use Rattle.hv_message.specs.Messages as means;
 ghost use Rattle.hv_message.specs.Tables as table;
 ghost use Rattle.hv_message.specs.Views as seen;
 
 use crate::MAX_DISTINCT;
+use crate::constants::is_short;
 use hv_expr::{Expr, Pred};
 use hv_value::{Kind, Listed, MAX_PARTITIONS, Text};
 
@@ -55,6 +57,17 @@ pub enum ViewAsked {
     Range(Text),
     /// The least different values of the column with this name, so many of them.
     Distinct(Text, i128),
+}
+
+/// A cell that a message gives, before it is known beside which column.
+#[derive(Drop)]
+pub enum CellAsked {
+    /// No value.
+    Missing,
+    /// A whole number of 64 bits, -2^63 to 2^64 - 1.
+    Number(i128),
+    /// A text, of a day or any other.
+    Text(Text),
 }
 
 impl Asked {
@@ -106,6 +119,19 @@ impl ViewAsked {
         match self {
             ViewAsked::Range(_) => true,
             ViewAsked::Distinct(_, k) => 1 <= *k && *k <= i128::from(MAX_DISTINCT),
+        }
+    }
+}
+
+impl CellAsked {
+    /// Whether a number is one of an `i64` and a text is short enough.
+    pub(crate) fn fits(&self) -> bool
+        ensures { result ≡ constant.fits_cell self.now }
+    {
+        match self {
+            CellAsked::Missing => true,
+            CellAsked::Number(n) => i128::from(i64::MIN) <= *n && *n <= i128::from(i64::MAX),
+            CellAsked::Text(text) => is_short(text.as_str()),
         }
     }
 }

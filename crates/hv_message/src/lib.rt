@@ -22,7 +22,7 @@ mod views;
 mod why;
 mod words;
 
-pub use asked::{Asked, TableAsked, TermAsked, ViewAsked};
+pub use asked::{Asked, CellAsked, TableAsked, TermAsked, ViewAsked};
 pub use flaw::Flaw;
 pub use laws::levels_are_enough;
 pub(crate) use limits::LEVELS;
