@@ -3,16 +3,17 @@
 ghost use Rattle.std.specs.Prelude.{◌≡◌, true, IfOk};
 ghost use Rattle.serde_json.specs.View.{view};
 ghost use Rattle.hv_view.specs.Plans.{FitsPlan};
-ghost use Rattle.hv_sketch.specs.Columns.{IsColumnOf};
 ghost use Rattle.hv_message.specs.Meant.{Tells};
 ghost use Rattle.hv_message.specs.Views as seen;
 
 use crate::Why;
 use crate::asked::ViewAsked;
+use crate::axes::{axis_in, column, one_axis};
 use crate::fields::{field, name, number, word};
 use crate::refused::Refused;
+use hv_hist::{Cdf, Histogram};
 use hv_range::{Distinct, Range};
-use hv_value::{Kind, Schema, Text};
+use hv_value::Schema;
 use hv_view::{AnyView, Plan};
 use serde_json::Value;
 use std::alloc::Global;
@@ -37,6 +38,8 @@ fn view_of(alloc: Global, value: &Value) -> Result<ViewAsked, Refused>
     match word(value, "kind")? {
         "range" => range_of(alloc, value),
         "distinct" => distinct_of(alloc, value),
+        "histogram" => Ok(ViewAsked::Histogram(axis_in(alloc, value, "axis")?)),
+        "cdf" => Ok(ViewAsked::Cdf(axis_in(alloc, value, "axis")?)),
         _ => Err(Refused::Word(Why::Field)),
     }
 }
@@ -63,16 +66,13 @@ pub(crate) fn planned(_alloc: Global, schema: &Schema, wanted: ViewAsked) -> Res
             let (col, _) = column(schema, &name)?;
             Ok(Plan::One(AnyView::Distinct(Distinct::new(col, k as u32))))
         }
-    }
-}
-
-/// Where the column with a name is, from 0, and of which kind it is.
-fn column(schema: &Schema, name: &Text) -> Result<(u32, Kind), Why>
-    ensures value { result ≡ seen.column_named schema.now name.now }
-    ensures there { IfOk result (λ column. IsColumnOf schema.now column.0 column.1) }
-{
-    match schema.find(name.as_str()) {
-        Some(col) => Ok((col, schema.kind(col))),
-        None => Err(Why::Column),
+        ViewAsked::Histogram(x) => {
+            let histogram = Histogram::new(one_axis(schema, x)?);
+            Ok(Plan::One(AnyView::Histogram(histogram)))
+        }
+        ViewAsked::Cdf(x) => {
+            let cdf = Cdf::new(one_axis(schema, x)?);
+            Ok(Plan::One(AnyView::Cdf(cdf)))
+        }
     }
 }
