@@ -16,7 +16,7 @@ use Rattle.hv_expr.specs.Checks.{kind_of_column}
 use Rattle.hv_expr.specs.Sizes.{expr_nodes, pred_nodes}
 use Rattle.hv_message.specs.Fields.{integer_at, text_at, bool_at, list_at}
 use Rattle.hv_message.specs.Flaws.{shaped, limited, map_ok, and_then, both, all_of}
-use Rattle.hv_message.specs.Constants.{cell_in, is_short, short_text, dated}
+use Rattle.hv_message.specs.Constants.{told_cell, is_short, short_text, dated}
 use Rattle.hv_message.specs.Words.{how_named, rel_named}
 use Rattle.hv_message.specs.declared.flaw.Flaw.{Flaw}
 use Rattle.hv_message.specs.declared.flaw.Flaw.TheVariants.{Field}
@@ -43,7 +43,7 @@ how_at value read = shaped (text_at (codes "how") value) (λ word. shaped (how_n
 abbrev pub cmp_in : Data → Result Pred Flaw
 cmp_in value =
     shaped (text_at (codes "col") value) (λ col. rel_at value (λ relation.
-    map_ok (pred.Cmp col relation) (under cell_in (codes "to") value)))
+    map_ok (pred.Cmp col relation) (under told_cell (codes "to") value)))
 
 -- a test of a text: how, whether it folds, the text
 abbrev pub test_in : Data → Result TextTest Flaw

@@ -1,13 +1,16 @@
 //! What a message asks for, before anything is looked up, and its limits. The definitions are in specs/Messages.antt,
-//! specs/Tables.antt, specs/Terms.antt and specs/Views.antt.
+//! specs/Constants.antt, specs/Tables.antt, specs/Terms.antt and specs/Views.antt.
 
 ghost use Rattle.std.specs.Prelude.{◌≡◌};
 ghost use Rattle.std.specs.List.{list_all};
+ghost use Rattle.hv_message.specs.Axes as axes;
+ghost use Rattle.hv_message.specs.Constants as constant;
 ghost use Rattle.hv_message.specs.Messages as means;
 ghost use Rattle.hv_message.specs.Tables as table;
 ghost use Rattle.hv_message.specs.Views as seen;
 
 use crate::MAX_DISTINCT;
+use crate::constants::is_short;
 use hv_expr::{Expr, Pred};
 use hv_value::{Kind, Listed, MAX_PARTITIONS, Text};
 
@@ -55,6 +58,38 @@ pub enum ViewAsked {
     Range(Text),
     /// The least different values of the column with this name, so many of them.
     Distinct(Text, i128),
+    /// The histogram of an axis.
+    Histogram(AxisAsked),
+    /// The cumulative distribution of an axis.
+    Cdf(AxisAsked),
+}
+
+/// An axis, before its column is looked up. A number of buckets is any whole number of 64 bits.
+#[derive(Drop)]
+pub enum AxisAsked {
+    /// So many buckets of the numbers or days of the column with this name, from one to another.
+    Numbers {
+        col: Text,
+        lo: CellAsked,
+        hi: CellAsked,
+        n: i128,
+    },
+    /// The texts of the column with this name, by the left boundaries of their buckets.
+    Texts {
+        col: Text,
+        bounds: Listed<Text>,
+    },
+}
+
+/// A cell that a message gives, before it is known beside which column.
+#[derive(Drop)]
+pub enum CellAsked {
+    /// No value.
+    Missing,
+    /// A whole number of 64 bits, -2^63 to 2^64 - 1.
+    Number(i128),
+    /// A text, of a day or any other.
+    Text(Text),
 }
 
 impl Asked {
@@ -106,6 +141,45 @@ impl ViewAsked {
         match self {
             ViewAsked::Range(_) => true,
             ViewAsked::Distinct(_, k) => 1 <= *k && *k <= i128::from(MAX_DISTINCT),
+            ViewAsked::Histogram(axis) => axis.fits(),
+            ViewAsked::Cdf(axis) => axis.fits(),
+        }
+    }
+}
+
+impl AxisAsked {
+    /// Whether its constants are within their limits.
+    pub(crate) fn fits(&self) -> bool
+        ensures { result ≡ axes.fits_asked self.now }
+    {
+        match self {
+            AxisAsked::Numbers { lo, hi, .. } => lo.fits() && hi.fits(),
+            AxisAsked::Texts { bounds, .. } => are_short(bounds.as_slice()),
+        }
+    }
+}
+
+fn are_short(bounds: &[Text]) -> bool
+    ensures { result ≡ list_all constant.is_short bounds.now }
+{
+    bounds.iter().all(is_short_bound)
+}
+
+fn is_short_bound(text: &Text) -> bool
+    ensures { result ≡ constant.is_short text.now }
+{
+    is_short(text.as_str())
+}
+
+impl CellAsked {
+    /// Whether a number is one of an `i64` and a text is short enough.
+    pub(crate) fn fits(&self) -> bool
+        ensures { result ≡ constant.fits_cell self.now }
+    {
+        match self {
+            CellAsked::Missing => true,
+            CellAsked::Number(n) => i128::from(i64::MIN) <= *n && *n <= i128::from(i64::MAX),
+            CellAsked::Text(text) => is_short(text.as_str()),
         }
     }
 }

@@ -2,6 +2,7 @@
 #![tactic(auto)]
 
 mod asked;
+mod axes;
 mod constants;
 mod exprs;
 mod fields;
@@ -22,7 +23,7 @@ mod views;
 mod why;
 mod words;
 
-pub use asked::{Asked, TableAsked, TermAsked, ViewAsked};
+pub use asked::{Asked, AxisAsked, CellAsked, TableAsked, TermAsked, ViewAsked};
 pub use flaw::Flaw;
 pub use laws::levels_are_enough;
 pub(crate) use limits::LEVELS;

@@ -86,7 +86,7 @@ fn meaning(alloc: Global, state: &TalkState, id: u64, asked: Asked) -> Result<Me
         Asked::Load(table) => made_in(state, id, loaded(alloc, state.catalog(), table)?),
         Asked::Over(of, term) => over(alloc, state, id, of, term),
         Asked::Info(of) => info(state, id, of),
-        Asked::View(of, wanted) => look(state, id, of, &wanted),
+        Asked::View(of, wanted) => look(alloc, state, id, of, wanted),
         Asked::Cancel(request) => cancel(state, id, request),
         Asked::End => Ok(Message::End { id }),
     }
@@ -138,15 +138,21 @@ pub(crate) fn shared(lineage: &Arc<Lineage>) -> Mem<Arc<Lineage>>
 }
 
 /// A view of an object, which opens a request.
-fn look(state: &TalkState, id: u64, of: i128, wanted: &ViewAsked) -> Result<Message, Refused>
+fn look(
+    alloc: Global,
+    state: &TalkState,
+    id: u64,
+    of: i128,
+    wanted: ViewAsked,
+) -> Result<Message, Refused>
     requires free { is_open id state.now.requests ≡ false }
-    requires limits { fits_view wanted.now ≡ true }
-    ensures { IsAnswer state.now id result (means.meaning state.now id (asked.View of wanted.now)) }
+    requires limits { fits_view wanted ≡ true }
+    ensures { IsAnswer state.now id result (means.meaning state.now id (asked.View of wanted)) }
 {
     let Some(lineage) = state.object(of) else {
         return Err(Refused::Word(Why::Object));
     };
-    let plan = planned(lineage.schema(), wanted)?;
+    let plan = planned(alloc, lineage.schema(), wanted)?;
     opened_in(state, id, shared(lineage)?, plan)
 }
 

@@ -7,7 +7,7 @@ ghost use Rattle.hv_expr.specs.Checks.{kind_of_column};
 ghost use Rattle.hv_message.specs.Flaws.{all_of, both, map_ok};
 ghost use Rattle.hv_message.specs.Trees as tree;
 
-use crate::constants::{cell_in, dated, is_short};
+use crate::constants::{dated, is_short, told_cell};
 use crate::fields::{bool_at, list_at, text_at};
 use crate::words::{how_named, rel_named};
 use crate::{Flaw, LEVELS, MAX_NODES};
@@ -29,7 +29,7 @@ fn cmp_in(alloc: Global, value: &Value) -> Mem<Result<Pred, Flaw>>
     let Some(constant) = value.get("to") else {
         return Ok(Err(Flaw::Field));
     };
-    match cell_in(alloc, constant)? {
+    match told_cell(alloc, constant)? {
         Ok(to) => Ok(Ok(Pred::Cmp {
             col: Text::of(alloc, col)?,
             how,

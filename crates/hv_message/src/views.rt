@@ -1,17 +1,17 @@
 //! Views that a message asks for. What each means is said in specs/Views.antt.
 
-ghost use Rattle.std.specs.Prelude.{◌≡◌, pos, true, IfOk};
+ghost use Rattle.std.specs.Prelude.{◌≡◌, true, IfOk};
 ghost use Rattle.serde_json.specs.View.{view};
 ghost use Rattle.hv_view.specs.Plans.{FitsPlan};
-ghost use Rattle.hv_view.specs.Stands.{FitsAny};
-ghost use Rattle.hv_message.specs.declared.asked.ViewAsked.TheVariants as asked;
 ghost use Rattle.hv_message.specs.Meant.{Tells};
 ghost use Rattle.hv_message.specs.Views as seen;
 
 use crate::Why;
 use crate::asked::ViewAsked;
+use crate::axes::{axis_in, column, one_axis};
 use crate::fields::{field, name, number, word};
 use crate::refused::Refused;
+use hv_hist::{Cdf, Histogram};
 use hv_range::{Distinct, Range};
 use hv_value::Schema;
 use hv_view::{AnyView, Plan};
@@ -38,6 +38,8 @@ fn view_of(alloc: Global, value: &Value) -> Result<ViewAsked, Refused>
     match word(value, "kind")? {
         "range" => range_of(alloc, value),
         "distinct" => distinct_of(alloc, value),
+        "histogram" => Ok(ViewAsked::Histogram(axis_in(alloc, value, "axis")?)),
+        "cdf" => Ok(ViewAsked::Cdf(axis_in(alloc, value, "axis")?)),
         _ => Err(Refused::Word(Why::Field)),
     }
 }
@@ -49,46 +51,28 @@ pub(crate) fn view_in(alloc: Global, value: &Value) -> Result<ViewAsked, Refused
     view_of(alloc, field(value, "view")?)
 }
 
-/// The plan of what is asked over columns, where its column is there.
-pub(crate) fn planned(schema: &Schema, wanted: &ViewAsked) -> Result<Plan, Why>
-    requires { seen.fits_view wanted.now ≡ true }
-    ensures value { result ≡ seen.planned schema.now wanted.now }
+/// The plan of what is asked for, over the columns of a schema.
+pub(crate) fn planned(_alloc: Global, schema: &Schema, wanted: ViewAsked) -> Result<Plan, Refused>
+    requires { seen.fits_view wanted ≡ true }
+    ensures value { Tells result (seen.planned schema.now wanted) }
     ensures fits { IfOk result (λ plan. FitsPlan plan schema.now) }
 {
-    match viewed(schema, wanted) {
-        Ok(view) => Ok(Plan::One(view)),
-        Err(word) => Err(word),
-    }
-}
-
-/// The view over columns, where its column is there.
-fn viewed(schema: &Schema, wanted: &ViewAsked) -> Result<AnyView, Why>
-    requires { seen.fits_view wanted.now ≡ true }
-    ensures value { result ≡ seen.viewed schema.now wanted.now }
-    ensures fits { IfOk result (λ v. FitsAny v schema.now) }
-{
     match wanted {
-        ViewAsked::Range(name) => range_over(schema, name.as_str()),
-        ViewAsked::Distinct(name, k) => distinct_over(schema, name.as_str(), *k as u32),
-    }
-}
-
-fn range_over(schema: &Schema, name: &str) -> Result<AnyView, Why>
-    ensures value { result ≡ seen.viewed schema.now (asked.Range name.now) }
-    ensures fits { IfOk result (λ v. FitsAny v schema.now) }
-{
-    match schema.find(name) {
-        Some(col) => Ok(AnyView::Range(Range::new(col, schema.kind(col)))),
-        None => Err(Why::Column),
-    }
-}
-
-fn distinct_over(schema: &Schema, name: &str, k: u32) -> Result<AnyView, Why>
-    ensures value { result ≡ seen.viewed schema.now (asked.Distinct name.now (pos k)) }
-    ensures fits { IfOk result (λ v. FitsAny v schema.now) }
-{
-    match schema.find(name) {
-        Some(col) => Ok(AnyView::Distinct(Distinct::new(col, k))),
-        None => Err(Why::Column),
+        ViewAsked::Range(name) => {
+            let (col, kind) = column(schema, &name)?;
+            Ok(Plan::One(AnyView::Range(Range::new(col, kind))))
+        }
+        ViewAsked::Distinct(name, k) => {
+            let (col, _) = column(schema, &name)?;
+            Ok(Plan::One(AnyView::Distinct(Distinct::new(col, k as u32))))
+        }
+        ViewAsked::Histogram(x) => {
+            let histogram = Histogram::new(one_axis(schema, x)?);
+            Ok(Plan::One(AnyView::Histogram(histogram)))
+        }
+        ViewAsked::Cdf(x) => {
+            let cdf = Cdf::new(one_axis(schema, x)?);
+            Ok(Plan::One(AnyView::Cdf(cdf)))
+        }
     }
 }

@@ -25,7 +25,7 @@ use Rattle.hv_expr.specs.declared.text_test.TextTest.{TextTest}
 use Rattle.hv_expr.specs.Checks.{cmp_faults, first_fault, kind_of_cell, kind_of_column, pred_fault, pred_faults, pred_node_faults}
 use Rattle.hv_expr.specs.Sizes.{greatest, pred_depth, pred_measure, pred_nodes}
 use Rattle.hv_expr.proofs.Folds.{fold-Cmp, fold-Missing, fold-Match, fold-And, fold-Or, fold-Not}
-use Rattle.hv_message.specs.Constants.{cell_in, dated, is_short}
+use Rattle.hv_message.specs.Constants.{told_cell, dated, is_short}
 use Rattle.hv_message.specs.Flaws.{all_of, and_then, map_ok}
 use Rattle.hv_message.specs.Trees.{dated_node, dated_pred, few_preds, levels, pred_in, whole_pred}
 use Rattle.hv_message.proofs.WordLemmas.{how_back, rel_back}
@@ -54,7 +54,7 @@ below_i64 n given =
     let high : nat_le n (2 ^ 63 - 1) ≡ true = second_so (int_le (negsuc (2 ^ 63 - 1)) (pos n)) (int_le (pos n) (pos (2 ^ 63 - 1))) given in
     lt-ltb n (2 ^ 63) (omega (arith, leb-true n (2 ^ 63 - 1) high))
 
-cell_back : (c : Cell) → is_given c ≡ true → cell_in (cell_data c) ≡ Ok (undated_cell c)
+cell_back : (c : Cell) → is_given c ≡ true → told_cell (cell_data c) ≡ Ok (undated_cell c)
 cell_back cell.Missing given = refl
 cell_back (cell.Int (pos n)) given = rw (below_i64 n given) refl
 cell_back (cell.Int (negsuc n)) given = refl
