@@ -9,13 +9,14 @@ use Rattle.hv_value.specs.Rows.{Row}
 use Rattle.hv_bucket.specs.declared.buckets.Axis.{Axis}
 use Rattle.hv_bucket.specs.declared.buckets.Place.{Place}
 use Rattle.hv_bucket.specs.declared.buckets.Place.TheVariants as place
+use Rattle.hv_bucket.specs.Axes.{is_bucket, is_missing, is_outside, place_in}
 use Rattle.hv_bucket.specs.PlaceLaws.{place-below}
 use Rattle.hv_bucket.specs.Places.{are_buckets, buckets_len}
 use Rattle.hv_sketch.specs.Tally.{count_in, tally_of}
 use Rattle.hv_sketch.specs.TallyLaws.{tally-at}
 use Rattle.hv_hist.specs.declared.shown.CdfShown.{CdfShown}
 use Rattle.hv_hist.specs.declared.shown.HistogramShown.{HistogramShown}
-use Rattle.hv_hist.specs.Histogram.{bucket_counts, cdf_of, histogram_of, is_bucket, is_missing, is_outside, place_in}
+use Rattle.hv_hist.specs.Histogram.{bucket_counts, cdf_of, histogram_of}
 use Rattle.hv_hist.specs.Slots.{IsCounted, slot_in, slot_of, slots_of}
 use Rattle.hv_hist.specs.Sums.{running_sums}
 
