@@ -2,3 +2,4 @@ pub mod TreeLemmas
 pub mod TableLemmas
 pub mod LevelLemmas
 pub mod WordLemmas
+pub mod AxisLemmas
