@@ -4,3 +4,4 @@ pub mod TreeLemmas
 pub mod TableLemmas
 pub mod LevelLemmas
 pub mod WordLemmas
+pub mod AxisLemmas

@@ -1,5 +1,5 @@
 -- Axes of the charts that a message asks for: what is asked for, its limits, and what it means over columns.
-use Rattle.std.specs.Prelude.{ℕ, ℤ, pos, negsuc, List, Bool, ◌&&◌, if◌then◌else◌, Option, Some, None, option_map, option_and_then, Result, Ok, Err, codes}
+use Rattle.std.specs.Prelude.{ℕ, ◌*◌, ℤ, pos, negsuc, nat_le, List, length, Bool, ◌&&◌, if◌then◌else◌, Option, Some, None, option_map, option_and_then, Result, Ok, Err, codes}
 use Rattle.std.specs.List.{list_all}
 use Rattle.serde_json.specs.Data.{Data}
 use Rattle.serde_json.specs.Find.{get}
@@ -15,6 +15,7 @@ use Rattle.hv_message.specs.declared.asked.AxisAsked.{AxisAsked}
 use Rattle.hv_message.specs.declared.asked.AxisAsked.TheVariants.{Numbers, Texts}
 use Rattle.hv_message.specs.declared.asked.CellAsked.{CellAsked}
 use Rattle.hv_message.specs.declared.asked.CellAsked.TheVariants as asked
+use Rattle.hv_message.specs.declared.limits.TheConstants.{MAX_COUNTS}
 use Rattle.hv_message.specs.declared.why.Why.{Why}
 use Rattle.hv_message.specs.declared.why.Why.TheVariants as why
 use Rattle.hv_message.specs.Constants.{cell_at, fits_cell, is_short}
@@ -45,6 +46,10 @@ axis_of value = axis_with value (get (codes "bounds") value)
 abbrev pub axis_in : List ℕ → Data → Option AxisAsked
 axis_in key value = option_and_then axis_of (get key value)
 
+-- two axes, the first under `x` and the second under `y`
+abbrev pub axes_in : Data → Option (AxisAsked × AxisAsked)
+axes_in value = option_and_then (λ x. option_map (λ y. (x, y)) (axis_in (codes "y") value)) (axis_in (codes "x") value)
+
 -- ---- its limits: those of its constants; the number of its buckets has its limit where there are such buckets
 
 abbrev pub fits_asked : AxisAsked → Bool
@@ -55,6 +60,19 @@ fits_asked (Texts col bounds) = list_all is_short bounds
 abbrev pub bucket_count : ℤ → ℕ
 bucket_count (pos n) = n
 bucket_count (negsuc n) = 0
+
+-- how many buckets an axis asks for
+abbrev pub buckets_asked : AxisAsked → ℕ
+buckets_asked (Numbers col lo hi n) = bucket_count n
+buckets_asked (Texts col bounds) = length bounds
+
+-- whether a chart has at most 65,536 counts
+abbrev pub are_few : ℕ → Bool
+are_few counts = nat_le counts MAX_COUNTS
+
+-- two axes, and the counts of each bucket of one with each of the other
+abbrev pub do_fit : AxisAsked → AxisAsked → Bool
+do_fit x y = fits_asked x && fits_asked y && are_few (buckets_asked x * buckets_asked y)
 
 -- ---- what it means
 
@@ -106,6 +124,22 @@ found columns (Texts name bounds) = and_then (texts_over bounds) (column_named c
 abbrev pub bucketed : Axis → Result Axis Why
 bucketed axis = if are_buckets axis.buckets then Ok axis else Err why.Buckets
 
--- an axis over columns
+-- two in order: the word of the first before that of the second
+abbrev pub in_order : {A B : Type 0} → Result A Why → Result B Why → Result (A × B) Why
+in_order first second = and_then (λ a. map_ok (λ b. (a, b)) second) first
+
+-- one axis, two, and three of them: the columns of all are looked up before the buckets of any
 abbrev pub one_axis : Columns → AxisAsked → Result Axis Why
 one_axis columns x = and_then bucketed (found columns x)
+
+abbrev pub both_bucketed : Axis × Axis → Result (Axis × Axis) Why
+both_bucketed axes = in_order (bucketed axes.0) (bucketed axes.1)
+
+abbrev pub two_axes : Columns → AxisAsked → AxisAsked → Result (Axis × Axis) Why
+two_axes columns x y = and_then both_bucketed (in_order (found columns x) (found columns y))
+
+abbrev pub all_bucketed : Axis × (Axis × Axis) → Result (Axis × (Axis × Axis)) Why
+all_bucketed axes = in_order (bucketed axes.0) (both_bucketed axes.1)
+
+abbrev pub three_axes : Columns → AxisAsked → AxisAsked → AxisAsked → Result (Axis × (Axis × Axis)) Why
+three_axes columns by x y = and_then all_bucketed (in_order (found columns by) (in_order (found columns x) (found columns y)))

@@ -58,7 +58,7 @@ shape value op =
     else if bytes_eq op (codes "project") then over_asked project_of value
     else if bytes_eq op (codes "derive") then over_asked derive_of value
     else if bytes_eq op (codes "info") then of_object value (λ of. Ok (Info of))
-    else if bytes_eq op (codes "view") then of_object value (λ of. map_ok (View of) (view_in value))
+    else if bytes_eq op (codes "view") then of_object value (λ of. of_field (view_in value) (λ v. Ok (View of v)))
     else if bytes_eq op (codes "cancel") then of_field (integer_at (codes "request") value) (λ request. Ok (Cancel request))
     else if bytes_eq op (codes "end") then Ok End
     else Err why.Op

@@ -1,7 +1,7 @@
 //! What a message asks for, before anything is looked up, and its limits. The definitions are in specs/Messages.antt,
 //! specs/Constants.antt, specs/Tables.antt, specs/Terms.antt and specs/Views.antt.
 
-ghost use Rattle.std.specs.Prelude.{◌≡◌};
+ghost use Rattle.std.specs.Prelude.{◌≡◌, ◌≤◌, ◌*◌, min};
 ghost use Rattle.std.specs.List.{list_all};
 ghost use Rattle.hv_message.specs.Axes as axes;
 ghost use Rattle.hv_message.specs.Constants as constant;
@@ -10,10 +10,10 @@ ghost use Rattle.hv_message.specs.Tables as table;
 ghost use Rattle.hv_message.specs.Terms as term;
 ghost use Rattle.hv_message.specs.Views as seen;
 
-use crate::MAX_DISTINCT;
 use crate::constants::is_short;
 use crate::exprs::fits_expr;
 use crate::pred_asked::PredAsked;
+use crate::{MAX_COUNTS, MAX_DISTINCT, MAX_GROUPS};
 use hv_expr::Expr;
 use hv_value::{Kind, Listed, MAX_PARTITIONS, Text};
 
@@ -65,6 +65,21 @@ pub enum ViewAsked {
     Histogram(AxisAsked),
     /// The cumulative distribution of an axis.
     Cdf(AxisAsked),
+    /// The stacked histogram of two axes.
+    Stacked(AxisAsked, AxisAsked),
+    /// The heat map of two axes.
+    HeatMap(AxisAsked, AxisAsked),
+    /// A view of the rows of each bucket of an axis.
+    Trellis(AxisAsked, InnerAsked),
+}
+
+/// A view of the rows of each group, before its columns are looked up.
+#[derive(Drop)]
+pub enum InnerAsked {
+    /// The histogram of an axis.
+    Histogram(AxisAsked),
+    /// The heat map of two axes.
+    HeatMap(AxisAsked, AxisAsked),
 }
 
 /// An axis, before its column is looked up. A number of buckets is any whole number of 64 bits.
@@ -159,13 +174,48 @@ impl ViewAsked {
             ViewAsked::Distinct(_, k) => 1 <= *k && *k <= i128::from(MAX_DISTINCT),
             ViewAsked::Histogram(axis) => axis.fits(),
             ViewAsked::Cdf(axis) => axis.fits(),
+            ViewAsked::Stacked(x, y) => do_fit(x, y),
+            ViewAsked::HeatMap(x, y) => do_fit(x, y),
+            ViewAsked::Trellis(by, inner) => fits_trellis(by, inner),
         }
     }
 }
 
+impl InnerAsked {
+    fn fits(&self) -> bool
+        ensures { result ≡ seen.fits_inner self.now }
+    {
+        match self {
+            InnerAsked::Histogram(x) => x.fits(),
+            InnerAsked::HeatMap(x, y) => do_fit(x, y),
+        }
+    }
+
+    /// How many counts it has, 65,537 where there are more.
+    #[tactic(auto, using(crate::proofs::AxisLemmas::cut_product))]
+    fn counts(&self) -> u64
+        ensures { result ≡ min (seen.counts_asked self.now) PAST_COUNTS }
+    {
+        match self {
+            InnerAsked::Histogram(x) => x.buckets(),
+            InnerAsked::HeatMap(x, y) => product(x.buckets(), y.buckets()),
+        }
+    }
+}
+
+/// Whether the groups of an axis and a view of each are within their limits.
+fn fits_trellis(by: &AxisAsked, inner: &InnerAsked) -> bool
+    ensures { result ≡ seen.fits_trellis by.now inner.now }
+{
+    by.fits()
+        && inner.fits()
+        && by.buckets() <= MAX_GROUPS
+        && product(by.buckets(), inner.counts()) <= MAX_COUNTS
+}
+
 impl AxisAsked {
     /// Whether its constants are within their limits.
-    pub(crate) fn fits(&self) -> bool
+    fn fits(&self) -> bool
         ensures { result ≡ axes.fits_asked self.now }
     {
         match self {
@@ -173,6 +223,35 @@ impl AxisAsked {
             AxisAsked::Texts { bounds, .. } => are_short(bounds.as_slice()),
         }
     }
+
+    /// How many buckets it asks for, 65,537 where there are more.
+    fn buckets(&self) -> u64
+        ensures { result ≡ min (axes.buckets_asked self.now) PAST_COUNTS }
+    {
+        match self {
+            AxisAsked::Numbers { n, .. } => (*n).max(0).min(i128::from(PAST_COUNTS)) as u64,
+            AxisAsked::Texts { bounds, .. } => (bounds.as_slice().len() as u64).min(PAST_COUNTS),
+        }
+    }
+}
+
+/// Whether two axes are within their limits, and the counts of each bucket of one by those of the other.
+fn do_fit(x: &AxisAsked, y: &AxisAsked) -> bool
+    ensures { result ≡ axes.do_fit x.now y.now }
+{
+    x.fits() && y.fits() && product(x.buckets(), y.buckets()) <= MAX_COUNTS
+}
+
+/// The least number of counts that is over their limit.
+const PAST_COUNTS: u64 = MAX_COUNTS + 1;
+
+/// The product of two numbers that are cut at 65,537, cut so itself.
+fn product(a: u64, b: u64) -> u64
+    requires a { a ≤ PAST_COUNTS }
+    requires b { b ≤ PAST_COUNTS }
+    ensures { result ≡ min (a * b) PAST_COUNTS }
+{
+    (a * b).min(PAST_COUNTS)
 }
 
 fn are_short(bounds: &[Text]) -> bool

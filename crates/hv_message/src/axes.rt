@@ -51,6 +51,15 @@ pub(crate) fn axis_in(alloc: Global, value: &Value, key: &str) -> Result<AxisAsk
     }
 }
 
+/// Two axes: under `x`, and under `y`.
+pub(crate) fn axes_in(alloc: Global, value: &Value) -> Result<(AxisAsked, AxisAsked), Refused>
+    ensures { IsField result (axes.axes_in (view value.now)) }
+{
+    let x = axis_in(alloc, value, "x")?;
+    let y = axis_in(alloc, value, "y")?;
+    Ok((x, y))
+}
+
 /// Where the column with a name is, from 0, and of which kind it is.
 pub(crate) fn column(schema: &Schema, name: &Text) -> Result<(u32, Kind), Why>
     ensures value { result ≡ axes.column_named schema.now name.now }
@@ -160,4 +169,37 @@ pub(crate) fn one_axis(schema: &Schema, x: AxisAsked) -> Result<Axis, Why>
     ensures fits { IfOk result (λ axis. fits_axis schema.now axis ≡ true) }
 {
     found(schema, x)?.bucketed()
+}
+
+/// Two axes over the columns of a schema: both are looked up before there are buckets.
+pub(crate) fn two_axes(schema: &Schema, x: AxisAsked, y: AxisAsked) -> Result<(Axis, Axis), Why>
+    requires x { axes.fits_asked x ≡ true }
+    requires y { axes.fits_asked y ≡ true }
+    ensures value { result ≡ axes.two_axes schema.now x y }
+    ensures fits { IfOk result (λ both. (fits_axis schema.now both.0 ≡ true)
+        × (fits_axis schema.now both.1 ≡ true)) }
+{
+    let x = found(schema, x)?;
+    let y = found(schema, y)?;
+    Ok((x.bucketed()?, y.bucketed()?))
+}
+
+/// Three axes over the columns of a schema: all are looked up before there are buckets.
+pub(crate) fn three_axes(
+    schema: &Schema,
+    by: AxisAsked,
+    x: AxisAsked,
+    y: AxisAsked,
+) -> Result<(Axis, (Axis, Axis)), Why>
+    requires by { axes.fits_asked by ≡ true }
+    requires x { axes.fits_asked x ≡ true }
+    requires y { axes.fits_asked y ≡ true }
+    ensures value { result ≡ axes.three_axes schema.now by x y }
+    ensures fits { IfOk result (λ all. (fits_axis schema.now all.0 ≡ true)
+        × (fits_axis schema.now all.1.0 ≡ true) × (fits_axis schema.now all.1.1 ≡ true)) }
+{
+    let by = found(schema, by)?;
+    let x = found(schema, x)?;
+    let y = found(schema, y)?;
+    Ok((by.bucketed()?, (x.bucketed()?, y.bucketed()?)))
 }

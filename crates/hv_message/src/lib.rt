@@ -23,11 +23,12 @@ mod views;
 mod why;
 mod words;
 
-pub use asked::{Asked, AxisAsked, CellAsked, TableAsked, TermAsked, ViewAsked};
+pub use asked::{Asked, AxisAsked, CellAsked, InnerAsked, TableAsked, TermAsked, ViewAsked};
 pub use laws::levels_are_enough;
 pub(crate) use limits::LEVELS;
 pub use limits::{
-    MAX_CONSTANT_BYTES, MAX_DISTINCT, MAX_ID, MAX_MESSAGE_BYTES, MAX_NODES, MAX_OBJECTS, MAX_OPEN,
+    MAX_CONSTANT_BYTES, MAX_COUNTS, MAX_DISTINCT, MAX_GROUPS, MAX_ID, MAX_MESSAGE_BYTES, MAX_NODES,
+    MAX_OBJECTS, MAX_OPEN,
 };
 pub use lineages::{read_lineage, read_lineage_value};
 pub use message::{Message, Refusal};
