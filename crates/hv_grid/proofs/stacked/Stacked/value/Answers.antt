@@ -16,7 +16,7 @@ returns c =
     c.grid_slot-placed.ensures.value
     ∙ ap (λ n. n * (c.len-columns.result + 1) + 0) nx
     ∙ ap (λ n. buckets_len view.x.buckets * (n + 1) + 0) ny
-        ∙ add-zero (buckets_len view.x.buckets * (buckets_len view.y.buckets + 1)) in
+    ∙ add-zero (buckets_len view.x.buckets * (buckets_len view.y.buckets + 1)) in
     stacked-is view.x view.y rows counts _ _ _ _ h c.len-rows.ensures.sound c.len-columns.ensures.sound
     (c.in_ok-grid_of.ensures
     ∙ ap (λ l. grid_read l c.len-rows.result (c.len-columns.result + 1) c.len-columns.result) lent
