@@ -25,6 +25,39 @@ pub struct CdfShown {
     pub sums: Listed<u64>,
 }
 
+impl HistogramShown {
+    /// An equal histogram.
+    pub fn copied(&self, alloc: Global) -> Mem<HistogramShown>
+        ensures { IfOk result (λ copy. copy ≡ self.now) }
+    {
+        Ok(HistogramShown {
+            counts: copied_counts(alloc, self.counts.as_slice())?,
+            missing: self.missing,
+            outside: self.outside,
+        })
+    }
+}
+
+impl CdfShown {
+    /// An equal distribution.
+    pub fn copied(&self, alloc: Global) -> Mem<CdfShown>
+        ensures { IfOk result (λ copy. copy ≡ self.now) }
+    {
+        Ok(CdfShown {
+            missing: self.missing,
+            outside: self.outside,
+            sums: copied_counts(alloc, self.sums.as_slice())?,
+        })
+    }
+}
+
+/// Equal counts, in memory of their own.
+fn copied_counts(alloc: Global, counts: &[u64]) -> Mem<Listed<u64>>
+    ensures { IfOk result (λ copy. copy ≡ counts.now) }
+{
+    Ok(Listed::from_vec(Vec::from_slice(alloc, counts)?))
+}
+
 /// The count of a slot, 0 where there is none.
 pub(crate) fn count_at(counts: &[u64], slot: usize) -> u64
     ensures { result ≡ get_or counts.now slot 0 }

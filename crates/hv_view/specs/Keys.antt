@@ -1,15 +1,22 @@
 -- What a view and a plan write into a hasher, as keys of a map: functions of the value, so that the same ones write the same.
 use Rattle.std.specs.Prelude.{ℕ, List, ◌++◌}
 use Rattle.std.specs.Hash as fed
+use Rattle.hv_bucket.specs.Hashes.{axis_writes}
 use Rattle.hv_view.specs.declared.any_view.AnyView.{AnyView}
 use Rattle.hv_view.specs.declared.any_view.AnyView.TheVariants as view
 use Rattle.hv_view.specs.declared.plan.Plan.{Plan}
 use Rattle.hv_view.specs.declared.plan.Plan.TheVariants as plan
 
--- the place of the view's variant, its column, and how many values it keeps
+-- the place of the view's variant, and then what it holds: columns, numbers of values, axes
 abbrev pub view_writes : AnyView → List (List ℕ)
 view_writes (view.Range range) = fed.u8 0 ++ fed.u32 range.col
 view_writes (view.Distinct distinct) = fed.u8 1 ++ fed.u32 distinct.col ++ fed.u32 distinct.k
+view_writes (view.Histogram histogram) = fed.u8 2 ++ axis_writes histogram.axis
+view_writes (view.Cdf cdf) = fed.u8 3 ++ axis_writes cdf.histogram.axis
+view_writes (view.Stacked stacked) = fed.u8 4 ++ axis_writes stacked.x ++ axis_writes stacked.y
+view_writes (view.HeatMap heat) = fed.u8 5 ++ axis_writes heat.x ++ axis_writes heat.y
+view_writes (view.TrellisHistogram trellis) = fed.u8 6 ++ axis_writes trellis.groups.0 ++ axis_writes trellis.inner.axis
+view_writes (view.TrellisHeatMap trellis) = fed.u8 7 ++ axis_writes trellis.groups.0 ++ axis_writes trellis.inner.x ++ axis_writes trellis.inner.y
 
 -- the place of the plan's variant, and then what its view writes
 abbrev pub plan_writes : Plan → List (List ℕ)

@@ -3,9 +3,12 @@
 ghost use Rattle.std.specs.Prelude.{◌≡◌, List, IfOk};
 ghost use Rattle.hv_value.specs.Rows.{Row};
 ghost use Rattle.hv_view.specs.Stands.{StandsForAny};
-ghost use Rattle.hv_view.specs.View.{IsView, sum_of};
+ghost use Rattle.hv_view.specs.View.{IsView, sum_shown};
 
+use crate::trellis::values_of_groups;
 use crate::{AnySummary, AnyView};
+use hv_grid::{HeatMapShown, StackedShown};
+use hv_hist::{CdfShown, HistogramShown};
 use hv_sketch::copied_cells;
 use hv_value::{Cell, Kind, Listed, Mem};
 use std::alloc::Global;
@@ -26,6 +29,24 @@ pub enum Shown {
     Distinct {
         more: bool,
         values: Listed<Cell>,
+    },
+    /// Of a histogram: how many rows are in each bucket, and how many cells are missing or in no bucket.
+    Histogram(HistogramShown),
+    /// Of a cumulative distribution: the running sums of a histogram's counts, and the rest as there.
+    Cdf(CdfShown),
+    /// Of a stacked histogram: how many rows are in each bucket of two axes, and how many elsewhere.
+    Stacked(StackedShown),
+    /// Of a heat map: how many rows are in each bucket of two axes, and how many others there are.
+    HeatMap(HeatMapShown),
+    /// Of a trellis: the histogram of each group's rows, and how many rows are in no group.
+    TrellisHistogram {
+        groups: Listed<HistogramShown>,
+        rest: u64,
+    },
+    /// The same with heat maps.
+    TrellisHeatMap {
+        groups: Listed<HeatMapShown>,
+        rest: u64,
     },
 }
 
@@ -52,38 +73,92 @@ impl Shown {
                 more: *more,
                 values: copied_cells(alloc, values.as_slice())?,
             },
+            Shown::Histogram(value) => Shown::Histogram(value.copied(alloc)?),
+            Shown::Cdf(value) => Shown::Cdf(value.copied(alloc)?),
+            Shown::Stacked(value) => Shown::Stacked(value.copied(alloc)?),
+            Shown::HeatMap(value) => Shown::HeatMap(value.copied(alloc)?),
+            Shown::TrellisHistogram { groups, rest } => Shown::TrellisHistogram {
+                groups: copied_histograms(alloc, groups.as_slice())?,
+                rest: *rest,
+            },
+            Shown::TrellisHeatMap { groups, rest } => Shown::TrellisHeatMap {
+                groups: copied_heat_maps(alloc, groups.as_slice())?,
+                rest: *rest,
+            },
         })
     }
 }
 
-/// The value of a view over the rows for which a summary of it stands. A summary of another view stands for
-/// no rows, and is shown as it is, without a sum.
+/// The value of a view over the rows for which a summary of it stands. A summary of another view stands for no rows,
+/// and is shown as no values.
 #[tactic(auto, unfolding(crate::specs::Stands::StandsForAny))]
 pub fn finish(alloc: Global, view: &AnyView, s: &AnySummary) -> Mem<Shown>
     ensures { IfOk result (λ shown. (rows : List Row)
         → StandsForAny view.now rows s.now → IsView view.now rows shown) }
 {
-    Ok(match s {
-        AnySummary::Range(s) => Shown::Range {
+    Ok(match (view, s) {
+        (AnyView::Range(view), AnySummary::Range(s)) => Shown::Range {
             count: s.count,
             max: Cell::of(alloc, s.greatest.lent())?,
             min: Cell::of(alloc, s.least.lent())?,
             missing: s.missing,
-            sum: sum_shown(view, s.sum),
+            sum: sum_shown(view.kind, s.sum),
         },
-        AnySummary::Distinct(s) => Shown::Distinct {
+        (AnyView::Distinct(_), AnySummary::Distinct(s)) => Shown::Distinct {
             more: s.more,
             values: copied_cells(alloc, s.values.as_slice())?,
+        },
+        (AnyView::Histogram(view), AnySummary::Histogram(s)) => {
+            Shown::Histogram(view.value(alloc, s)?)
+        }
+        (AnyView::Cdf(view), AnySummary::Cdf(s)) => Shown::Cdf(view.value(alloc, s)?),
+        (AnyView::Stacked(view), AnySummary::Stacked(s)) => Shown::Stacked(view.value(alloc, s)?),
+        (AnyView::HeatMap(view), AnySummary::HeatMap(s)) => Shown::HeatMap(view.value(alloc, s)?),
+        (AnyView::TrellisHistogram(view), AnySummary::TrellisHistogram(s)) => {
+            Shown::TrellisHistogram {
+                groups: values_of_groups(alloc, &view.inner, s.groups())?,
+                rest: s.rest(),
+            }
+        }
+        (AnyView::TrellisHeatMap(view), AnySummary::TrellisHeatMap(s)) => Shown::TrellisHeatMap {
+            groups: values_of_groups(alloc, &view.inner, s.groups())?,
+            rest: s.rest(),
+        },
+        _ => Shown::Distinct {
+            more: false,
+            values: Listed::new(alloc),
         },
     })
 }
 
-/// The sum that is shown: that of a range of whole numbers.
-fn sum_shown(view: &AnyView, sum: i128) -> Option<i128>
-    ensures { result ≡ sum_of view.now sum }
+/// The sum that is shown of a column of a kind: that of whole numbers.
+fn sum_shown(kind: Kind, sum: i128) -> Option<i128>
+    ensures { result ≡ sum_shown kind sum }
 {
-    match view {
-        AnyView::Range(range) if range.kind == Kind::Int => Some(sum),
-        _ => None,
+    match kind {
+        Kind::Int => Some(sum),
+        Kind::Date | Kind::Text => None,
     }
+}
+
+/// Equal histograms, in memory of their own.
+fn copied_histograms(alloc: Global, values: &[HistogramShown]) -> Mem<Listed<HistogramShown>>
+    ensures { IfOk result (λ copy. copy ≡ values.now) }
+{
+    let mut copy = Listed::new(alloc);
+    for value in values {
+        copy.push(value.copied(alloc)?)?;
+    }
+    Ok(copy)
+}
+
+/// Equal heat maps, in memory of their own.
+fn copied_heat_maps(alloc: Global, values: &[HeatMapShown]) -> Mem<Listed<HeatMapShown>>
+    ensures { IfOk result (λ copy. copy ≡ values.now) }
+{
+    let mut copy = Listed::new(alloc);
+    for value in values {
+        copy.push(value.copied(alloc)?)?;
+    }
+    Ok(copy)
 }
