@@ -2,7 +2,7 @@
 """Measures `hill play` over many messages and over large tables, beside the plain Python of plain.py, and over the
 longest messages.
 
-Both play each script five times, in rounds over all scripts, and the outputs are compared byte for byte. The best
+Both play each script three times, in rounds over all scripts, and the outputs are compared byte for byte. The best
 run counts, by its processor time (user and system). On a shared machine the same run may take twice as long a
 few seconds later, so whether a message costs more in a longer script is told from pairs of runs: the shortest
 script and right after it the longest, and of all pairs the median.
@@ -28,14 +28,14 @@ import time
 TOP = os.path.dirname(os.path.dirname(os.path.realpath(__file__)))
 HILL = [f"{TOP}/crates/hill/out/hill", "play"]
 PLAIN = [sys.executable, f"{TOP}/bench/plain.py"]
-ROUNDS = 5
-PAIRS = 21
+ROUNDS = 3
+PAIRS = 11
 LENGTHS = (10_000, 20_000, 60_000)
 TABLES = 60
 PART_BYTES = 900_000
 LONGEST = 1 << 20
-LONG_MESSAGES = 16
-LONG_PAIRS = 7
+LONG_MESSAGES = 4
+LONG_PAIRS = 5
 SMALL = {"schema": [["x", "int"]], "parts": ["x,y\n5,a\n,b\n-2,c", "x,y\n9,d"]}
 
 
@@ -181,7 +181,14 @@ class Long:
 
     def show(self):
         long, short = best(self.costs)
-        print(f"{self.name:20} {self.word:8} {long:9.2f} {short:9.2f} {self.ratio():6.2f}")
+        print(f"{self.name:20} {self.word:8} {long:9.2f} {short:9.2f} {self.ratio():6.2f}", flush=True)
+
+
+def shown_long(folder, name):
+    """A shape's runs, shown as soon as they are done."""
+    long = Long(folder, name)
+    long.show()
+    return long
 
 
 def play(words, script, output):
@@ -269,16 +276,14 @@ def main():
         for _ in range(ROUNDS):
             for case in cases:
                 case.play()
+        print("                       ------------- hill --------------    ------- Python -------")
+        print("script              MB    clock  user+sys    MB/s  us/line     clock  user+sys  ratio")
+        for case in cases:
+            case.show()
+        print("The outputs are the same, byte for byte.", flush=True)
         growths = {"views": growth(of_views), "loads": growth(of_loads)}
-        longs = [Long(folder, name) for name in SHAPES]
-    print("                       ------------- hill --------------    ------- Python -------")
-    print("script              MB    clock  user+sys    MB/s  us/line     clock  user+sys  ratio")
-    for case in cases:
-        case.show()
-    print("The outputs are the same, byte for byte.")
-    print("messages long by     answer   ms: 1 MiB   256 KiB  ratio")
-    for long in longs:
-        long.show()
+        print("messages long by     answer   ms: 1 MiB   256 KiB  ratio")
+        longs = [shown_long(folder, name) for name in SHAPES]
     ratio = of_tables.ratio()
     steepest = max(long.ratio() for long in longs if long.name != NOT_JUDGED)
     held = [
