@@ -14,4 +14,5 @@ mod tests;
 pub use keys::{copied_key, fits_keys, is_above, key_at};
 pub use laws::least_of_pieces;
 pub use next_rows::NextRows;
+pub use same::{are_same_keys, are_same_orders};
 pub use summary::{CountedKeys, NextRow, NextSummary};

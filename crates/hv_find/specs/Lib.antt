@@ -1,0 +1,6 @@
+pub mod Find
+pub mod FindLaws
+pub mod FindSums
+pub mod Fits
+pub mod Least
+pub mod LeastLaws
