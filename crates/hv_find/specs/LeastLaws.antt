@@ -32,7 +32,7 @@ not-greater o e = rw e refl
 
 module _ {X : Type 0} (cmp : X → X → Ordering) where
   -- the least of a list with one value more
-  first-put : (x : X) (ys : List X) → slice_get (put cmp kept x ys) 0 ≡ lesser cmp (Some x) (slice_get ys 0)
+  pub first-put : (x : X) (ys : List X) → slice_get (put cmp kept x ys) 0 ≡ lesser cmp (Some x) (slice_get ys 0)
   first-put x [] = refl
   first-put x (y ∷ ys) = by (cmp x y)
     where
@@ -48,7 +48,7 @@ module _ {X : Type 0} (cmp : X → X → Ordering) where
   is-old x y e = rw e refl
 
   module _ (order : IsTotalOrder cmp) where
-    back : (x y : X) → is_lt (cmp x y) ≡ is_gt (cmp y x)
+    pub back : (x y : X) → is_lt (cmp x y) ≡ is_gt (cmp y x)
     back x y = ap is_lt (order.antisymm x y) ∙ back-less (cmp y x)
 
     three : (x y z : X) → lesser cmp (lesser cmp (Some x) (Some y)) (Some z) ≡ lesser cmp (Some x) (lesser cmp (Some y) (Some z))

@@ -3,6 +3,7 @@
 #![tactic(auto)]
 
 mod find;
+mod laws;
 mod least;
 mod matches;
 mod same;
@@ -11,4 +12,5 @@ mod summary;
 mod tests;
 
 pub use find::Find;
+pub use laws::first_is_least;
 pub use summary::FindSummary;
