@@ -1,3 +1,4 @@
+pub mod Axes
 pub mod Buckets
 pub mod Hashes
 pub mod Limits

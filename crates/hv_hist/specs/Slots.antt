@@ -4,9 +4,9 @@ use Rattle.hv_value.specs.Rows.{Row}
 use Rattle.hv_bucket.specs.declared.buckets.Axis.{Axis}
 use Rattle.hv_bucket.specs.declared.buckets.Place.{Place}
 use Rattle.hv_bucket.specs.declared.buckets.Place.TheVariants as place
+use Rattle.hv_bucket.specs.Axes.{place_in}
 use Rattle.hv_bucket.specs.Places.{buckets_len}
 use Rattle.hv_sketch.specs.Tally.{IsTally}
-use Rattle.hv_hist.specs.Histogram.{place_in}
 
 -- how many slots there are
 abbrev pub slots_of : Axis → ℕ

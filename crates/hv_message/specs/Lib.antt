@@ -1,6 +1,7 @@
 pub mod Fields
 pub mod Flaws
 pub mod Constants
+pub mod Axes
 pub mod Words
 pub mod Trees
 pub mod Tables

@@ -8,6 +8,11 @@ use Rattle.hv_lineage.specs.Lineages.{TermOver, lineage_columns}
 use Rattle.hv_lineage.specs.declared.error.LineageErr.{LineageErr}
 use Rattle.hv_lineage.specs.declared.error.LineageErr.TheVariants as err
 use Rattle.hv_lineage.specs.declared.lineage.Lineage.{Lineage}
+use Rattle.hv_bucket.specs.declared.buckets.Axis.{Axis}
+use Rattle.hv_bucket.specs.declared.buckets.Buckets.TheVariants as buckets
+use Rattle.hv_message.specs.Axes.{bucket_count}
+use Rattle.hv_message.specs.declared.axes.AxisFound.{AxisFound}
+use Rattle.hv_message.specs.declared.axes.AxisFound.TheVariants.{Numbers, Texts}
 use Rattle.hv_message.specs.declared.message.Message.{Message}
 use Rattle.hv_message.specs.declared.message.Message.TheVariants.{Make, Info, View, Cancel, End}
 use Rattle.hv_message.specs.declared.message.Refusal.{Refusal}
@@ -79,6 +84,11 @@ CanServe known (Info id of) = Unit {0}
 CanServe known (View id of plan) = CanOpen known id (arc_value of) plan
 CanServe known (Cancel id request) = is_open request known.requests ≡ true
 CanServe known (End id) = Unit {0}
+
+-- the axis that the code found, whether there are such buckets or not
+abbrev pub axis_found : AxisFound → Axis
+axis_found (Numbers col lo hi n) = record { col = col; buckets = buckets.Int (record { lo = lo; hi = hi; n = bucket_count n }) }
+axis_found (Texts col bounds) = record { col = col; buckets = buckets.Text bounds }
 
 -- the id of a message
 abbrev pub id_of : Message → ℕ

@@ -1,69 +1,110 @@
 -- Views that a message asks for: what is asked for, its limits, and what it means over columns.
-use Rattle.std.specs.Prelude.{ℕ, ℤ, pos, unsigned_abs, int_le, List, Bool, true, ◌&&◌, if◌then◌else◌, Option, Some, None, Result, Ok, Err, bytes_eq, codes}
+use Rattle.std.specs.Prelude.{ℕ, ◌*◌, ℤ, pos, unsigned_abs, int_le, nat_le, List, Bool, true, ◌&&◌, if◌then◌else◌, Option, Some, None, option_map, option_and_then, Result, Ok, Err, bytes_eq, codes}
 use Rattle.serde_json.specs.Data.{Data}
 use Rattle.serde_json.specs.Find.{get}
 use Rattle.hv_value.specs.declared.cell.Kind.{Kind}
-use Rattle.hv_value.specs.Schema.{Columns, column_place}
-use Rattle.hv_sketch.specs.Columns.{kind_at}
-use Rattle.hv_view.specs.declared.any_view.AnyView.{AnyView}
+use Rattle.hv_value.specs.Schema.{Columns}
+use Rattle.hv_bucket.specs.declared.buckets.Axis.{Axis}
 use Rattle.hv_view.specs.declared.any_view.AnyView.TheVariants as any
 use Rattle.hv_view.specs.declared.plan.Plan.{Plan}
 use Rattle.hv_view.specs.declared.plan.Plan.TheVariants.{One}
 use Rattle.hv_message.specs.declared.asked.ViewAsked.{ViewAsked}
-use Rattle.hv_message.specs.declared.asked.ViewAsked.TheVariants.{Range, Distinct}
+use Rattle.hv_message.specs.declared.asked.ViewAsked.TheVariants.{Range, Distinct, Histogram, Cdf, Stacked, HeatMap, Trellis}
+use Rattle.hv_message.specs.declared.asked.AxisAsked.{AxisAsked}
+use Rattle.hv_message.specs.declared.asked.InnerAsked.{InnerAsked}
+use Rattle.hv_message.specs.declared.asked.InnerAsked.TheVariants as inner
 use Rattle.hv_message.specs.declared.why.Why.{Why}
 use Rattle.hv_message.specs.declared.why.Why.TheVariants as why
-use Rattle.hv_message.specs.Flaws.{and_then, of_field}
+use Rattle.hv_message.specs.Axes.{are_few, axes_in, axis_in, buckets_asked, column_named, do_fit, fits_asked, one_axis, two_axes, three_axes}
+use Rattle.hv_message.specs.Flaws.{map_ok}
 use Rattle.hv_message.specs.Fields.{integer_at, text_at}
-use Rattle.hv_message.specs.declared.limits.TheConstants.{MAX_DISTINCT}
+use Rattle.hv_message.specs.declared.limits.TheConstants.{MAX_DISTINCT, MAX_GROUPS}
 
 -- ---- what a view asks for
 
-abbrev pub range_of : Data → Result ViewAsked Why
-range_of value = of_field (text_at (codes "col") value) (λ col. Ok (Range col))
+abbrev pub range_of : Data → Option ViewAsked
+range_of value = option_map Range (text_at (codes "col") value)
 
-abbrev pub distinct_of : Data → Result ViewAsked Why
-distinct_of value = of_field (text_at (codes "col") value) (λ col. of_field (integer_at (codes "k") value) (λ k. Ok (Distinct col k)))
+abbrev pub distinct_of : Data → Option ViewAsked
+distinct_of value = option_and_then (λ col. option_map (Distinct col) (integer_at (codes "k") value)) (text_at (codes "col") value)
+
+abbrev pub stacked_of : Data → Option ViewAsked
+stacked_of value = option_map (λ (axes : AxisAsked × AxisAsked). Stacked axes.0 axes.1) (axes_in value)
+
+abbrev pub heat_map_of : Data → Option ViewAsked
+heat_map_of value = option_map (λ (axes : AxisAsked × AxisAsked). HeatMap axes.0 axes.1) (axes_in value)
+
+-- what is taken of each group's rows: a histogram or a heat map
+abbrev pub inner_with : Data → List ℕ → Option InnerAsked
+inner_with value word =
+    if bytes_eq word (codes "histogram") then option_map inner.Histogram (axis_in (codes "axis") value)
+    else if bytes_eq word (codes "heatmap") then option_map (λ (axes : AxisAsked × AxisAsked). inner.HeatMap axes.0 axes.1) (axes_in value)
+    else None
+
+abbrev pub inner_of : Data → Option InnerAsked
+inner_of value = option_and_then (inner_with value) (text_at (codes "kind") value)
+
+abbrev pub trellis_of : Data → Option ViewAsked
+trellis_of value = option_and_then (λ by. option_map (Trellis by) (option_and_then inner_of (get (codes "view") value))) (axis_in (codes "by") value)
 
 -- a view by its kind's word
-abbrev pub view_with : Data → List ℕ → Result ViewAsked Why
+abbrev pub view_with : Data → List ℕ → Option ViewAsked
 view_with value word =
     if bytes_eq word (codes "range") then range_of value
     else if bytes_eq word (codes "distinct") then distinct_of value
-    else Err why.Field
+    else if bytes_eq word (codes "histogram") then option_map Histogram (axis_in (codes "axis") value)
+    else if bytes_eq word (codes "cdf") then option_map Cdf (axis_in (codes "axis") value)
+    else if bytes_eq word (codes "stacked") then stacked_of value
+    else if bytes_eq word (codes "heatmap") then heat_map_of value
+    else if bytes_eq word (codes "trellis") then trellis_of value
+    else None
 
-abbrev pub view_of : Data → Result ViewAsked Why
-view_of value = of_field (text_at (codes "kind") value) (view_with value)
+abbrev pub view_of : Data → Option ViewAsked
+view_of value = option_and_then (view_with value) (text_at (codes "kind") value)
 
-abbrev pub view_in : Data → Result ViewAsked Why
-view_in value = of_field (get (codes "view") value) view_of
+abbrev pub view_in : Data → Option ViewAsked
+view_in value = option_and_then view_of (get (codes "view") value)
 
--- ---- its limits: 1 to 500 different values
+-- ---- its limits: 1 to 500 different values, and those of its axes
+
+-- what is taken of each group's rows has its own limits, wherever it is taken
+abbrev pub fits_inner : InnerAsked → Bool
+fits_inner (inner.Histogram x) = fits_asked x
+fits_inner (inner.HeatMap x y) = do_fit x y
+
+-- how many counts it has
+abbrev pub counts_asked : InnerAsked → ℕ
+counts_asked (inner.Histogram x) = buckets_asked x
+counts_asked (inner.HeatMap x y) = buckets_asked x * buckets_asked y
+
+-- at most 64 groups, and the counts of all of them
+abbrev pub fits_trellis : AxisAsked → InnerAsked → Bool
+fits_trellis by inner = fits_asked by && fits_inner inner && nat_le (buckets_asked by) MAX_GROUPS && are_few (buckets_asked by * counts_asked inner)
 
 abbrev pub fits_view : ViewAsked → Bool
 fits_view (Range col) = true
 fits_view (Distinct col k) = int_le (pos 1) k && int_le k (pos MAX_DISTINCT)
+fits_view (Histogram axis) = fits_asked axis
+fits_view (Cdf axis) = fits_asked axis
+fits_view (Stacked x y) = do_fit x y
+fits_view (HeatMap x y) = do_fit x y
+fits_view (Trellis by inner) = fits_trellis by inner
 
 -- ---- what it means
 
--- a view of a column of a kind
-abbrev pub of_kind : Option Kind → (Kind → AnyView) → Result AnyView Why
-of_kind None make = Err why.Column
-of_kind (Some k) make = Ok (make k)
+-- the plan of a view of the rows of each bucket of an axis
+abbrev pub trellis_over : Columns → AxisAsked → InnerAsked → Result Plan Why
+trellis_over columns by (inner.Histogram x) = map_ok (λ (both : Axis × Axis).
+    One (any.TrellisHistogram (record { groups = record { 0 = both.0 }; inner = record { axis = both.1 } }))) (two_axes columns by x)
+trellis_over columns by (inner.HeatMap x y) = map_ok (λ (all : Axis × (Axis × Axis)).
+    One (any.TrellisHeatMap (record { groups = record { 0 = all.0 }; inner = record { x = all.1.0; y = all.1.1 } }))) (three_axes columns by x y)
 
--- the range of a column that is there
-abbrev pub range_over : Columns → ℕ → Result AnyView Why
-range_over columns col = of_kind (kind_at columns col) (λ k. any.Range (record { col = col; kind = k }))
-
-abbrev pub view_at : Columns → Option ℕ → (ℕ → Result AnyView Why) → Result AnyView Why
-view_at columns None make = Err why.Column
-view_at columns (Some col) make = make col
-
--- a view over columns, where its column is there
-abbrev pub viewed : Columns → ViewAsked → Result AnyView Why
-viewed columns (Range name) = view_at columns (column_place name columns) (range_over columns)
-viewed columns (Distinct name k) = view_at columns (column_place name columns) (λ col. Ok (any.Distinct (record { col = col; k = unsigned_abs k })))
-
--- the plan of its value: that of the one view
+-- the plan of its value over columns
 abbrev pub planned : Columns → ViewAsked → Result Plan Why
-planned columns asked = and_then (λ view. Ok (One view)) (viewed columns asked)
+planned columns (Range name) = map_ok (λ (column : ℕ × Kind). One (any.Range (record { col = column.0; kind = column.1 }))) (column_named columns name)
+planned columns (Distinct name k) = map_ok (λ (column : ℕ × Kind). One (any.Distinct (record { col = column.0; k = unsigned_abs k }))) (column_named columns name)
+planned columns (Histogram x) = map_ok (λ x. One (any.Histogram (record { axis = x }))) (one_axis columns x)
+planned columns (Cdf x) = map_ok (λ x. One (any.Cdf (record { histogram = record { axis = x } }))) (one_axis columns x)
+planned columns (Stacked x y) = map_ok (λ (both : Axis × Axis). One (any.Stacked (record { x = both.0; y = both.1 }))) (two_axes columns x y)
+planned columns (HeatMap x y) = map_ok (λ (both : Axis × Axis). One (any.HeatMap (record { x = both.0; y = both.1 }))) (two_axes columns x y)
+planned columns (Trellis by inner) = trellis_over columns by inner

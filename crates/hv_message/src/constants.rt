@@ -1,14 +1,17 @@
 //! Cells that a message gives as constants. What each means is said in specs/Constants.antt.
 
-ghost use Rattle.std.specs.Prelude.{◌≡◌, IfOk};
-ghost use Rattle.serde_json.specs.View.{view, number_view};
+ghost use Rattle.std.specs.Prelude.{◌≡◌, true};
+ghost use Rattle.serde_json.specs.View.{view};
 ghost use Rattle.hv_value.specs.Days.{day_of_text};
-ghost use Rattle.hv_message.specs.Flaws.{limited};
+ghost use Rattle.hv_message.specs.Meant.{IsField};
 ghost use Rattle.hv_message.specs.Constants as constant;
 
-use crate::{Flaw, MAX_CONSTANT_BYTES};
-use hv_value::{Cell, Kind, Mem, Text, day_of};
-use serde_json::{Number, Value};
+use crate::asked::CellAsked;
+use crate::fields::{field, integer_of, needed};
+use crate::refused::Refused;
+use crate::{MAX_CONSTANT_BYTES, Why};
+use hv_value::{Cell, Kind, Text, day_of};
+use serde_json::Value;
 use std::alloc::Global;
 
 /// Whether a constant text is within its limit.
@@ -18,58 +21,44 @@ pub(crate) fn is_short(text: &str) -> bool
     text.len() <= MAX_CONSTANT_BYTES
 }
 
-/// A constant text of its own memory.
-pub(crate) fn short_text(alloc: Global, text: &str) -> Mem<Result<Text, Flaw>>
-    ensures { IfOk result (λ read. read ≡ constant.short_text text.now) }
-{
-    if is_short(text) {
-        Ok(Ok(Text::of(alloc, text)?))
-    } else {
-        Ok(Err(Flaw::Limit))
-    }
-}
-
-fn number_cell(number: &Number) -> Result<Cell, Flaw>
-    ensures { result ≡ constant.number_cell (number_view number.now) }
-{
-    match number.as_i64() {
-        Some(n) => Ok(Cell::Int(n)),
-        None if number.is_f64() => Err(Flaw::Field),
-        None => Err(Flaw::Limit),
-    }
-}
-
-fn text_in(alloc: Global, text: &str) -> Mem<Result<Cell, Flaw>>
-    ensures { IfOk result (λ read. read ≡ limited (constant.is_short text.now) (Cell.Text text.now)) }
-{
-    if is_short(text) {
-        Ok(Ok(Cell::Text(Text::of(alloc, text)?)))
-    } else {
-        Ok(Err(Flaw::Limit))
-    }
-}
-
-/// A constant: null, a whole number or a text.
-pub(crate) fn cell_in(alloc: Global, value: &Value) -> Mem<Result<Cell, Flaw>>
-    ensures { IfOk result (λ read. read ≡ constant.cell_in (view value.now)) }
+/// A constant: null, a whole number of at most 64 bits or a text.
+pub(crate) fn cell_in(alloc: Global, value: &Value) -> Result<CellAsked, Refused>
+    ensures { IsField result (constant.cell_in (view value.now)) }
 {
     match value {
-        Value::Null => Ok(Ok(Cell::Missing)),
-        Value::Bool(_) => Ok(Err(Flaw::Field)),
-        Value::Number(number) => Ok(number_cell(number)),
-        Value::String(text) => text_in(alloc, text.as_str()),
-        Value::Array(_) => Ok(Err(Flaw::Field)),
-        Value::Object(_) => Ok(Err(Flaw::Field)),
+        Value::Null => Ok(CellAsked::Missing),
+        Value::Number(number) => Ok(CellAsked::Number(needed(integer_of(number))?)),
+        Value::String(text) => Ok(CellAsked::Text(Text::of(alloc, text.as_str())?)),
+        Value::Bool(_) | Value::Array(_) | Value::Object(_) => Err(Refused::Word(Why::Field)),
     }
 }
 
-/// A constant beside a column of a kind: a text that names a day is that day beside a column of dates.
-pub(crate) fn dated(kind: Option<Kind>, cell: Cell) -> Cell
-    ensures { result ≡ constant.dated kind cell }
+/// The constant of a field.
+pub(crate) fn cell(alloc: Global, value: &Value, key: &str) -> Result<CellAsked, Refused>
+    ensures { IsField result (constant.cell_at key.now (view value.now)) }
 {
-    match (kind, cell) {
-        (Some(Kind::Date), Cell::Text(text)) => day_or_text(text),
-        (_, cell) => cell,
+    cell_in(alloc, field(value, key)?)
+}
+
+/// A constant beside a column of a kind, none where there is no such column: a text that names a day is that day
+/// beside a column of dates.
+pub(crate) fn cell_beside(kind: Option<Kind>, cell: CellAsked) -> Cell
+    requires { constant.fits_cell cell ≡ true }
+    ensures { result ≡ constant.cell_beside kind cell }
+{
+    match cell {
+        CellAsked::Missing => Cell::Missing,
+        CellAsked::Number(n) => Cell::Int(n as i64),
+        CellAsked::Text(text) => text_beside(kind, text),
+    }
+}
+
+fn text_beside(kind: Option<Kind>, text: Text) -> Cell
+    ensures { result ≡ constant.text_beside kind text }
+{
+    match kind {
+        Some(Kind::Date) => day_or_text(text),
+        _ => Cell::Text(text),
     }
 }
 

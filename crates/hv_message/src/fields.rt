@@ -22,7 +22,8 @@ pub(crate) fn integer_at(value: &Value, key: &str) -> Option<i128>
     integer_of(value.get(key)?.as_number()?)
 }
 
-fn integer_of(number: &Number) -> Option<i128>
+/// The whole number of at most 64 bits that a number is.
+pub(crate) fn integer_of(number: &Number) -> Option<i128>
     ensures value { result ≡ as_integer (number_view number.now) }
     ensures fit { IfSome result (λ n. is_fit_factor n ≡ true) }
 {

@@ -2,16 +2,17 @@
 #![tactic(auto)]
 
 mod asked;
+mod axes;
 mod constants;
 mod exprs;
 mod fields;
-mod flaw;
 mod laws;
 mod limits;
 mod lineages;
 mod made;
 mod message;
 mod operations;
+mod pred_asked;
 mod preds;
 mod read;
 mod refused;
@@ -22,15 +23,16 @@ mod views;
 mod why;
 mod words;
 
-pub use asked::{Asked, TableAsked, TermAsked, ViewAsked};
-pub use flaw::Flaw;
+pub use asked::{Asked, AxisAsked, CellAsked, InnerAsked, TableAsked, TermAsked, ViewAsked};
 pub use laws::levels_are_enough;
 pub(crate) use limits::LEVELS;
 pub use limits::{
-    MAX_CONSTANT_BYTES, MAX_DISTINCT, MAX_ID, MAX_MESSAGE_BYTES, MAX_NODES, MAX_OBJECTS, MAX_OPEN,
+    MAX_CONSTANT_BYTES, MAX_COUNTS, MAX_DISTINCT, MAX_GROUPS, MAX_ID, MAX_MESSAGE_BYTES, MAX_NODES,
+    MAX_OBJECTS, MAX_OPEN,
 };
 pub use lineages::{read_lineage, read_lineage_value};
 pub use message::{Message, Refusal};
+pub use pred_asked::PredAsked;
 pub use read::{id_in, read_message, read_value};
 pub use state::TalkState;
 pub use why::Why;

@@ -15,6 +15,12 @@ pub const MAX_NODES: u64 = 64;
 /// The most values of a distinct view.
 pub const MAX_DISTINCT: u32 = 500;
 
+/// The most counts of a chart of two axes, and of a chart of each group in all.
+pub const MAX_COUNTS: u64 = 65_536;
+
+/// The most groups of rows of which a chart is taken each.
+pub const MAX_GROUPS: u64 = 64;
+
 /// The most objects that a session makes.
 pub const MAX_OBJECTS: usize = 4_096;
 

@@ -11,6 +11,7 @@ ghost use Rattle.hv_message.specs.declared.asked.Asked.TheVariants as asked;
 ghost use Rattle.hv_message.specs.Meant.{HasFitFactors, HasFitNumbers, IsAnswer, Tells};
 ghost use Rattle.hv_message.specs.Messages as means;
 ghost use Rattle.hv_message.specs.Messages.{is_open};
+ghost use Rattle.hv_message.specs.Terms.{fits_term};
 ghost use Rattle.hv_message.specs.Views.{fits_view};
 
 use crate::asked::{Asked, TermAsked, ViewAsked};
@@ -86,7 +87,7 @@ fn meaning(alloc: Global, state: &TalkState, id: u64, asked: Asked) -> Result<Me
         Asked::Load(table) => made_in(state, id, loaded(alloc, state.catalog(), table)?),
         Asked::Over(of, term) => over(alloc, state, id, of, term),
         Asked::Info(of) => info(state, id, of),
-        Asked::View(of, wanted) => look(state, id, of, &wanted),
+        Asked::View(of, wanted) => look(alloc, state, id, of, wanted),
         Asked::Cancel(request) => cancel(state, id, request),
         Asked::End => Ok(Message::End { id }),
     }
@@ -110,7 +111,8 @@ fn over(
     of: i128,
     term: TermAsked,
 ) -> Result<Message, Refused>
-    requires { HasFitFactors term }
+    requires limits { fits_term term ≡ true }
+    requires fit { HasFitFactors term }
     ensures { IsAnswer state.now id result (means.meaning state.now id (asked.Over of term)) }
 {
     let Some(lineage) = state.object(of) else {
@@ -138,15 +140,21 @@ pub(crate) fn shared(lineage: &Arc<Lineage>) -> Mem<Arc<Lineage>>
 }
 
 /// A view of an object, which opens a request.
-fn look(state: &TalkState, id: u64, of: i128, wanted: &ViewAsked) -> Result<Message, Refused>
+fn look(
+    alloc: Global,
+    state: &TalkState,
+    id: u64,
+    of: i128,
+    wanted: ViewAsked,
+) -> Result<Message, Refused>
     requires free { is_open id state.now.requests ≡ false }
-    requires limits { fits_view wanted.now ≡ true }
-    ensures { IsAnswer state.now id result (means.meaning state.now id (asked.View of wanted.now)) }
+    requires limits { fits_view wanted ≡ true }
+    ensures { IsAnswer state.now id result (means.meaning state.now id (asked.View of wanted)) }
 {
     let Some(lineage) = state.object(of) else {
         return Err(Refused::Word(Why::Object));
     };
-    let plan = planned(lineage.schema(), wanted)?;
+    let plan = planned(alloc, lineage.schema(), wanted)?;
     opened_in(state, id, shared(lineage)?, plan)
 }
 

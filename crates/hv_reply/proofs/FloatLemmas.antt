@@ -17,13 +17,15 @@ use Rattle.hv_lineage.specs.declared.base.Base.TheVariants as base
 use Rattle.hv_lineage.specs.declared.term.Term.{Term, fold-roll-Term, ind-Term, map-Term}
 use Rattle.hv_lineage.specs.declared.term.Term.TheOpen.{Term-F}
 use Rattle.hv_lineage.specs.Lineages.{TermOver, lineage_columns}
+use Rattle.hv_grid.specs.declared.shown.HeatMapShown.{HeatMapShown}
+use Rattle.hv_hist.specs.declared.shown.HistogramShown.{HistogramShown}
 use Rattle.hv_view.specs.declared.shown.Shown.{Shown}
 use Rattle.hv_view.specs.declared.shown.Shown.TheVariants as shown
 use Rattle.hv_reply.specs.declared.reply.Reply.{Reply}
 use Rattle.hv_reply.specs.declared.reply.Reply.TheVariants as reply
 use Rattle.hv_reply.specs.Lineages.{base_data, columns_data, expr_data, expr_node_data, lineage_data, pred_data, pred_node_data, term_data, term_node_data, texts_data}
 use Rattle.hv_reply.specs.Replies.{reply_data}
-use Rattle.hv_reply.specs.Values.{cell_data, day_data, list_of, shown_data, sum_data, whole, whole_or_null}
+use Rattle.hv_reply.specs.Values.{cell_data, day_data, grid_data, heat_map_data, histogram_data, list_of, shown_data, sum_data, whole, whole_or_null}
 
 -- ---- numbers, cells and lists
 
@@ -60,9 +62,33 @@ sum_plain : (sum : Option ℤ) → has_float (sum_data sum) ≡ false
 sum_plain None = refl
 sum_plain (Some sum) = refl
 
+grid_plain : (rows : List (List ℕ)) → has_float (grid_data rows) ≡ false
+grid_plain [] = refl
+grid_plain (row ∷ rows) = rw (wholes row) (grid_plain rows)
+
+histogram_plain : (h : HistogramShown) → has_float (histogram_data h) ≡ false
+histogram_plain h = rw (wholes h.counts) refl
+
+heat_map_plain : (h : HeatMapShown) → has_float (heat_map_data h) ≡ false
+heat_map_plain h = rw (grid_plain h.counts) refl
+
+histograms : (hs : List HistogramShown) → has_float (list_of (map histogram_data hs)) ≡ false
+histograms [] = refl
+histograms (h ∷ hs) = rw (histogram_plain h) (histograms hs)
+
+heat_maps : (hs : List HeatMapShown) → has_float (list_of (map heat_map_data hs)) ≡ false
+heat_maps [] = refl
+heat_maps (h ∷ hs) = rw (heat_map_plain h) (heat_maps hs)
+
 shown_plain : (s : Shown) → has_float (shown_data s) ≡ false
 shown_plain (shown.Range count greatest least missing sum) = rw (cell_plain greatest, cell_plain least, sum_plain sum) refl
 shown_plain (shown.Distinct more values) = rw (cells values) refl
+shown_plain (shown.Histogram histogram) = histogram_plain histogram
+shown_plain (shown.Cdf cdf) = rw (wholes cdf.sums) refl
+shown_plain (shown.Stacked stacked) = rw (grid_plain stacked.counts, wholes stacked.other) refl
+shown_plain (shown.HeatMap heat) = heat_map_plain heat
+shown_plain (shown.TrellisHistogram groups rest) = rw (histograms groups) refl
+shown_plain (shown.TrellisHeatMap groups rest) = rw (heat_maps groups) refl
 
 -- ---- columns and bases
 

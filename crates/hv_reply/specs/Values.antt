@@ -8,6 +8,10 @@ use Rattle.hv_value.specs.Civil.{text_of_day}
 use Rattle.hv_value.specs.Days.{is_day_number}
 use Rattle.hv_value.specs.declared.cell.Cell.{Cell}
 use Rattle.hv_value.specs.declared.cell.Cell.TheVariants as cell
+use Rattle.hv_grid.specs.declared.shown.HeatMapShown.{HeatMapShown}
+use Rattle.hv_grid.specs.declared.shown.StackedShown.{StackedShown}
+use Rattle.hv_hist.specs.declared.shown.CdfShown.{CdfShown}
+use Rattle.hv_hist.specs.declared.shown.HistogramShown.{HistogramShown}
 use Rattle.hv_view.specs.declared.shown.Shown.{Shown}
 use Rattle.hv_view.specs.declared.shown.Shown.TheVariants as shown
 
@@ -38,6 +42,39 @@ abbrev pub sum_data : Option ℤ → Data
 sum_data None = null
 sum_data (Some sum) = string (signed_decimal sum)
 
+-- counts, in turn
+abbrev pub counts_data : List ℕ → Data
+counts_data counts = list_of (map whole counts)
+
+abbrev pub histogram_data : HistogramShown → Data
+histogram_data histogram = object (member (codes "counts") (counts_data histogram.counts)
+    (member (codes "missing") (whole histogram.missing)
+    (member (codes "outside") (whole histogram.outside) no_members)))
+
+abbrev pub cdf_data : CdfShown → Data
+cdf_data cdf = object (member (codes "missing") (whole cdf.missing)
+    (member (codes "outside") (whole cdf.outside)
+    (member (codes "sums") (counts_data cdf.sums) no_members)))
+
+-- rows of counts, in turn
+abbrev pub grid_data : List (List ℕ) → Data
+grid_data rows = list_of (map counts_data rows)
+
+abbrev pub stacked_data : StackedShown → Data
+stacked_data stacked = object (member (codes "counts") (grid_data stacked.counts)
+    (member (codes "missing") (whole stacked.missing)
+    (member (codes "other") (counts_data stacked.other)
+    (member (codes "outside") (whole stacked.outside) no_members))))
+
+abbrev pub heat_map_data : HeatMapShown → Data
+heat_map_data heat = object (member (codes "counts") (grid_data heat.counts)
+    (member (codes "rest") (whole heat.rest) no_members))
+
+-- the value of each group, and how many rows are in none
+abbrev pub groups_data : List Data → ℕ → Data
+groups_data groups rest = object (member (codes "groups") (list_of groups)
+    (member (codes "rest") (whole rest) no_members))
+
 -- the value of a view
 abbrev pub shown_data : Shown → Data
 shown_data (shown.Range count greatest least missing sum) = object (member (codes "count") (whole count)
@@ -47,3 +84,9 @@ shown_data (shown.Range count greatest least missing sum) = object (member (code
     (member (codes "sum") (sum_data sum) no_members)))))
 shown_data (shown.Distinct more values) = object (member (codes "more") (boolean more)
     (member (codes "values") (list_of (map cell_data values)) no_members))
+shown_data (shown.Histogram histogram) = histogram_data histogram
+shown_data (shown.Cdf cdf) = cdf_data cdf
+shown_data (shown.Stacked stacked) = stacked_data stacked
+shown_data (shown.HeatMap heat) = heat_map_data heat
+shown_data (shown.TrellisHistogram groups rest) = groups_data (map histogram_data groups) rest
+shown_data (shown.TrellisHeatMap groups rest) = groups_data (map heat_map_data groups) rest

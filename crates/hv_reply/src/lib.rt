@@ -1,6 +1,7 @@
 //! Replies and lineages as texts: the one text of each.
 #![tactic(auto)]
 
+mod charts;
 mod exprs;
 mod laws;
 mod lineages;

@@ -11,6 +11,9 @@ ghost use Rattle.hv_view.specs.declared.shown.Shown.TheVariants as shown;
 ghost use Rattle.hv_expr.specs.Checks.{is_fit_factor};
 ghost use Rattle.hv_reply.specs.Values.{cell_data, day_data, list_of, shown_data, sum_data, whole, whole_or_null};
 
+use crate::charts::{
+    cdf_value, heat_map_value, heat_maps_value, histogram_value, histograms_value, stacked_value,
+};
 use hv_value::{Cell, Mem, date_text};
 use hv_view::Shown;
 use serde_json::{Value, json};
@@ -122,6 +125,14 @@ pub fn shown_value(alloc: Global, shown: &Shown) -> Mem<Value>
             let values = cells_value(alloc, values.as_slice())?;
             Ok(distinct_value(alloc, *more, values)?)
         }
+        Shown::Histogram(histogram) => histogram_value(alloc, histogram),
+        Shown::Cdf(cdf) => cdf_value(alloc, cdf),
+        Shown::Stacked(stacked) => stacked_value(alloc, stacked),
+        Shown::HeatMap(heat) => heat_map_value(alloc, heat),
+        Shown::TrellisHistogram { groups, rest } => {
+            histograms_value(alloc, groups.as_slice(), *rest)
+        }
+        Shown::TrellisHeatMap { groups, rest } => heat_maps_value(alloc, groups.as_slice(), *rest),
     }
 }
 

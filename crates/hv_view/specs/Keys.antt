@@ -13,6 +13,10 @@ view_writes (view.Range range) = fed.u8 0 ++ fed.u32 range.col
 view_writes (view.Distinct distinct) = fed.u8 1 ++ fed.u32 distinct.col ++ fed.u32 distinct.k
 view_writes (view.Histogram histogram) = fed.u8 2 ++ axis_writes histogram.axis
 view_writes (view.Cdf cdf) = fed.u8 3 ++ axis_writes cdf.histogram.axis
+view_writes (view.Stacked stacked) = fed.u8 4 ++ axis_writes stacked.x ++ axis_writes stacked.y
+view_writes (view.HeatMap heat) = fed.u8 5 ++ axis_writes heat.x ++ axis_writes heat.y
+view_writes (view.TrellisHistogram trellis) = fed.u8 6 ++ axis_writes trellis.groups.0 ++ axis_writes trellis.inner.axis
+view_writes (view.TrellisHeatMap trellis) = fed.u8 7 ++ axis_writes trellis.groups.0 ++ axis_writes trellis.inner.x ++ axis_writes trellis.inner.y
 
 -- the place of the plan's variant, and then what its view writes
 abbrev pub plan_writes : Plan → List (List ℕ)

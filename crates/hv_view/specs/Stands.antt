@@ -1,10 +1,15 @@
 -- What any view takes and what its summaries stand for: one case a view.
-use Rattle.std.specs.Prelude.{◌≡◌, ◌<◌, ⊤, true, List, length}
+use Rattle.std.specs.Prelude.{◌≡◌, ◌<◌, ⊤, true, ℕ, List, length}
 use Rattle.hv_value.specs.Rows.{Row}
 use Rattle.hv_value.specs.Schema.{Columns}
-use Rattle.hv_bucket.specs.Places.{fits_axis}
+use Rattle.hv_bucket.specs.Places.{buckets_len, fits_axis}
+use Rattle.hv_grid.specs.declared.by_axis.ByAxis.{ByAxis}
+use Rattle.hv_grid.specs.declared.heat_map.HeatMap.{HeatMap}
+use Rattle.hv_grid.specs.Grids.{bucket_in}
+use Rattle.hv_grid.specs.Slots.{IsHeatMapCounted, IsStackedCounted}
 use Rattle.hv_hist.specs.Slots.{IsCounted}
 use Rattle.hv_sketch.specs.Columns.{IsColumnOf}
+use Rattle.hv_sketch.specs.Groups.{StandForGroups}
 use Rattle.hv_range.specs.Distinct.{distinct_of}
 use Rattle.hv_range.specs.IsRange.{IsRange, TakesNoMemory}
 use Rattle.hv_view.specs.declared.any_view.AnyView.{AnyView}
@@ -12,12 +17,20 @@ use Rattle.hv_view.specs.declared.any_view.AnyView.TheVariants as view
 use Rattle.hv_view.specs.declared.any_summary.AnySummary.{AnySummary}
 use Rattle.hv_view.specs.declared.any_summary.AnySummary.TheVariants as summary
 
+-- the columns of both axes are there
+abbrev pub FitsHeatMap : Columns → HeatMap → Type 0
+FitsHeatMap columns heat = (fits_axis columns heat.x ≡ true) × (fits_axis columns heat.y ≡ true)
+
 -- the columns that the view reads are there, each of the kind that it takes
 abbrev pub FitsAny : AnyView → Columns → Type 0
 FitsAny (view.Range range) columns = IsColumnOf columns range.col range.kind
 FitsAny (view.Distinct distinct) columns = distinct.col < length columns
 FitsAny (view.Histogram histogram) columns = fits_axis columns histogram.axis ≡ true
 FitsAny (view.Cdf cdf) columns = fits_axis columns cdf.histogram.axis ≡ true
+FitsAny (view.Stacked stacked) columns = (fits_axis columns stacked.x ≡ true) × (fits_axis columns stacked.y ≡ true)
+FitsAny (view.HeatMap heat) columns = FitsHeatMap columns heat
+FitsAny (view.TrellisHistogram trellis) columns = (fits_axis columns trellis.groups.0 ≡ true) × (fits_axis columns trellis.inner.axis ≡ true)
+FitsAny (view.TrellisHeatMap trellis) columns = (fits_axis columns trellis.groups.0 ≡ true) × FitsHeatMap columns trellis.inner
 
 -- merging the view's summaries takes no memory
 abbrev pub MergesAlways : AnyView → Type 0
@@ -25,6 +38,14 @@ MergesAlways (view.Range range) = TakesNoMemory range.kind
 MergesAlways (view.Distinct distinct) = ⊥
 MergesAlways (view.Histogram histogram) = ⊤
 MergesAlways (view.Cdf cdf) = ⊤
+MergesAlways (view.Stacked stacked) = ⊤
+MergesAlways (view.HeatMap heat) = ⊤
+MergesAlways (view.TrellisHistogram trellis) = ⊥
+MergesAlways (view.TrellisHeatMap trellis) = ⊥
+
+-- the summaries stand for the rows of the groups of an axis, and the rest is how many rows are in none
+abbrev pub ForEachGroup : {S : Type 0} → ByAxis → (List Row → S → Type 0) → List Row → List S × ℕ → Type 0
+ForEachGroup by stands rows s = StandForGroups (bucket_in by.0) (buckets_len by.0.buckets) stands rows s.0 s.1
 
 -- the summary is of the view's variant, and that of the rows
 unfoldable pub StandsForAny : AnyView → List Row → AnySummary → Type 0
@@ -32,4 +53,8 @@ StandsForAny (view.Range range) rows (summary.Range s) = IsRange range.kind rang
 StandsForAny (view.Distinct distinct) rows (summary.Distinct s) = s ≡ distinct_of distinct.col distinct.k rows
 StandsForAny (view.Histogram histogram) rows (summary.Histogram s) = IsCounted histogram.axis rows s
 StandsForAny (view.Cdf cdf) rows (summary.Cdf s) = IsCounted cdf.histogram.axis rows s
+StandsForAny (view.Stacked stacked) rows (summary.Stacked s) = IsStackedCounted stacked.x stacked.y rows s
+StandsForAny (view.HeatMap heat) rows (summary.HeatMap s) = IsHeatMapCounted heat.x heat.y rows s
+StandsForAny (view.TrellisHistogram trellis) rows (summary.TrellisHistogram s) = ForEachGroup trellis.groups (IsCounted trellis.inner.axis) rows s
+StandsForAny (view.TrellisHeatMap trellis) rows (summary.TrellisHeatMap s) = ForEachGroup trellis.groups (IsHeatMapCounted trellis.inner.x trellis.inner.y) rows s
 StandsForAny _ rows _ = ⊥

@@ -1,7 +1,7 @@
 //! The summary of any view. What one stands for is `StandsForAny` (specs/Stands.antt).
 
 use hv_range::{DistinctSummary, RangeSummary};
-use hv_sketch::Counts;
+use hv_sketch::{Counts, GroupedSummary};
 
 /// The summary of some rows for a view, one variant a view. `AnyView` copies one as its variant does.
 #[derive(Drop)]
@@ -12,4 +12,10 @@ pub enum AnySummary {
     Histogram(Counts),
     /// The same.
     Cdf(Counts),
+    /// The counts of the rows of each pair of buckets, and of the others as `Stacked` tells them apart.
+    Stacked(Counts),
+    /// The counts of the rows of each pair of buckets, and of all others.
+    HeatMap(Counts),
+    TrellisHistogram(GroupedSummary<Counts>),
+    TrellisHeatMap(GroupedSummary<Counts>),
 }

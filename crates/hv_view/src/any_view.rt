@@ -8,9 +8,10 @@ ghost use Rattle.hv_value.specs.SameLaws.{same_by-decides, same_by-equiv};
 ghost use Rattle.hv_view.specs.Keys.{view_writes};
 
 use crate::AnySummary;
+use hv_grid::{HeatMap, Stacked, Trellis};
 use hv_hist::{Cdf, Histogram};
 use hv_range::{Distinct, Range};
-use hv_sketch::Vizketch;
+use hv_sketch::{Grouped, Vizketch};
 use hv_value::{Mem, Schema, Table};
 use std::alloc::Global;
 use std::hash::{Hash, Hasher};
@@ -22,6 +23,10 @@ pub enum AnyView {
     Distinct(Distinct),
     Histogram(Histogram),
     Cdf(Cdf),
+    Stacked(Stacked),
+    HeatMap(HeatMap),
+    TrellisHistogram(Trellis<Histogram>),
+    TrellisHeatMap(Trellis<HeatMap>),
 }
 
 impl AnyView {
@@ -34,6 +39,16 @@ impl AnyView {
             AnyView::Distinct(view) => AnyView::Distinct(*view),
             AnyView::Histogram(view) => AnyView::Histogram(view.copied(alloc)?),
             AnyView::Cdf(view) => AnyView::Cdf(view.copied(alloc)?),
+            AnyView::Stacked(view) => AnyView::Stacked(view.copied(alloc)?),
+            AnyView::HeatMap(view) => AnyView::HeatMap(view.copied(alloc)?),
+            AnyView::TrellisHistogram(view) => AnyView::TrellisHistogram(Grouped::new(
+                view.groups.copied(alloc)?,
+                view.inner.copied(alloc)?,
+            )),
+            AnyView::TrellisHeatMap(view) => AnyView::TrellisHeatMap(Grouped::new(
+                view.groups.copied(alloc)?,
+                view.inner.copied(alloc)?,
+            )),
         })
     }
 
@@ -46,6 +61,14 @@ impl AnyView {
             (AnyView::Distinct(view), AnyView::Distinct(other)) => view == other,
             (AnyView::Histogram(view), AnyView::Histogram(other)) => view.same(other),
             (AnyView::Cdf(view), AnyView::Cdf(other)) => view.same(other),
+            (AnyView::Stacked(view), AnyView::Stacked(other)) => view.same(other),
+            (AnyView::HeatMap(view), AnyView::HeatMap(other)) => view.same(other),
+            (AnyView::TrellisHistogram(view), AnyView::TrellisHistogram(other)) => {
+                view.groups.same(&other.groups) && view.inner.same(&other.inner)
+            }
+            (AnyView::TrellisHeatMap(view), AnyView::TrellisHeatMap(other)) => {
+                view.groups.same(&other.groups) && view.inner.same(&other.inner)
+            }
             _ => false,
         }
     }
@@ -97,6 +120,27 @@ impl Hash for AnyView {
                 state.write_u8(3);
                 view.histogram.axis.hash(state);
             }
+            AnyView::Stacked(view) => {
+                state.write_u8(4);
+                view.x.hash(state);
+                view.y.hash(state);
+            }
+            AnyView::HeatMap(view) => {
+                state.write_u8(5);
+                view.x.hash(state);
+                view.y.hash(state);
+            }
+            AnyView::TrellisHistogram(view) => {
+                state.write_u8(6);
+                view.groups.0.hash(state);
+                view.inner.axis.hash(state);
+            }
+            AnyView::TrellisHeatMap(view) => {
+                state.write_u8(7);
+                view.groups.0.hash(state);
+                view.inner.x.hash(state);
+                view.inner.y.hash(state);
+            }
         }
     }
 }
@@ -119,6 +163,10 @@ impl Vizketch for AnyView {
             AnyView::Distinct(view) => view.fits(schema),
             AnyView::Histogram(view) => view.fits(schema),
             AnyView::Cdf(view) => view.fits(schema),
+            AnyView::Stacked(view) => view.fits(schema),
+            AnyView::HeatMap(view) => view.fits(schema),
+            AnyView::TrellisHistogram(view) => view.fits(schema),
+            AnyView::TrellisHeatMap(view) => view.fits(schema),
         }
     }
 
@@ -129,6 +177,10 @@ impl Vizketch for AnyView {
             AnyView::Distinct(view) => AnySummary::Distinct(view.zero(alloc)?),
             AnyView::Histogram(view) => AnySummary::Histogram(view.zero(alloc)?),
             AnyView::Cdf(view) => AnySummary::Cdf(view.zero(alloc)?),
+            AnyView::Stacked(view) => AnySummary::Stacked(view.zero(alloc)?),
+            AnyView::HeatMap(view) => AnySummary::HeatMap(view.zero(alloc)?),
+            AnyView::TrellisHistogram(view) => AnySummary::TrellisHistogram(view.zero(alloc)?),
+            AnyView::TrellisHeatMap(view) => AnySummary::TrellisHeatMap(view.zero(alloc)?),
         })
     }
 
@@ -139,6 +191,14 @@ impl Vizketch for AnyView {
             AnyView::Distinct(view) => AnySummary::Distinct(view.summarize(alloc, table)?),
             AnyView::Histogram(view) => AnySummary::Histogram(view.summarize(alloc, table)?),
             AnyView::Cdf(view) => AnySummary::Cdf(view.summarize(alloc, table)?),
+            AnyView::Stacked(view) => AnySummary::Stacked(view.summarize(alloc, table)?),
+            AnyView::HeatMap(view) => AnySummary::HeatMap(view.summarize(alloc, table)?),
+            AnyView::TrellisHistogram(view) => AnySummary::TrellisHistogram(view.summarize(
+                alloc, table,
+            )?),
+            AnyView::TrellisHeatMap(view) => AnySummary::TrellisHeatMap(view.summarize(
+                alloc, table,
+            )?),
         })
     }
 
@@ -157,6 +217,22 @@ impl Vizketch for AnyView {
             (AnyView::Cdf(view), AnySummary::Cdf(acc), AnySummary::Cdf(d)) => {
                 view.merge_into(alloc, acc, d)
             }
+            (AnyView::Stacked(view), AnySummary::Stacked(acc), AnySummary::Stacked(d)) => {
+                view.merge_into(alloc, acc, d)
+            }
+            (AnyView::HeatMap(view), AnySummary::HeatMap(acc), AnySummary::HeatMap(d)) => {
+                view.merge_into(alloc, acc, d)
+            }
+            (
+                AnyView::TrellisHistogram(view),
+                AnySummary::TrellisHistogram(acc),
+                AnySummary::TrellisHistogram(d),
+            ) => { view.merge_into(alloc, acc, d) }
+            (
+                AnyView::TrellisHeatMap(view),
+                AnySummary::TrellisHeatMap(acc),
+                AnySummary::TrellisHeatMap(d),
+            ) => { view.merge_into(alloc, acc, d) }
             _ => unreachable!(),
         }
     }
@@ -172,6 +248,16 @@ impl Vizketch for AnyView {
                 AnySummary::Histogram(view.copy(alloc, s)?)
             }
             (AnyView::Cdf(view), AnySummary::Cdf(s)) => AnySummary::Cdf(view.copy(alloc, s)?),
+            (AnyView::Stacked(view), AnySummary::Stacked(s)) => AnySummary::Stacked(view.copy(
+                alloc, s,
+            )?),
+            (AnyView::HeatMap(view), AnySummary::HeatMap(s)) => AnySummary::HeatMap(view.copy(
+                alloc, s,
+            )?),
+            (AnyView::TrellisHistogram(view), AnySummary::TrellisHistogram(s)) =>
+                AnySummary::TrellisHistogram(view.copy(alloc, s)?),
+            (AnyView::TrellisHeatMap(view), AnySummary::TrellisHeatMap(s)) =>
+                AnySummary::TrellisHeatMap(view.copy(alloc, s)?),
             // a summary of another view stands for no rows, and so may what is answered
             _ => return self.zero(alloc),
         })

@@ -7,6 +7,7 @@ mod plan;
 mod shown;
 #[cfg(test)]
 mod tests;
+mod trellis;
 
 pub use any_summary::AnySummary;
 pub use any_view::AnyView;

@@ -5,7 +5,9 @@ ghost use Rattle.hv_value.specs.Rows.{Row};
 ghost use Rattle.hv_view.specs.Stands.{StandsForAny};
 ghost use Rattle.hv_view.specs.View.{IsView, sum_shown};
 
+use crate::trellis::values_of_groups;
 use crate::{AnySummary, AnyView};
+use hv_grid::{HeatMapShown, StackedShown};
 use hv_hist::{CdfShown, HistogramShown};
 use hv_sketch::copied_cells;
 use hv_value::{Cell, Kind, Listed, Mem};
@@ -32,6 +34,20 @@ pub enum Shown {
     Histogram(HistogramShown),
     /// Of a cumulative distribution: the running sums of a histogram's counts, and the rest as there.
     Cdf(CdfShown),
+    /// Of a stacked histogram: how many rows are in each bucket of two axes, and how many elsewhere.
+    Stacked(StackedShown),
+    /// Of a heat map: how many rows are in each bucket of two axes, and how many others there are.
+    HeatMap(HeatMapShown),
+    /// Of a trellis: the histogram of each group's rows, and how many rows are in no group.
+    TrellisHistogram {
+        groups: Listed<HistogramShown>,
+        rest: u64,
+    },
+    /// The same with heat maps.
+    TrellisHeatMap {
+        groups: Listed<HeatMapShown>,
+        rest: u64,
+    },
 }
 
 impl Shown {
@@ -59,6 +75,16 @@ impl Shown {
             },
             Shown::Histogram(value) => Shown::Histogram(value.copied(alloc)?),
             Shown::Cdf(value) => Shown::Cdf(value.copied(alloc)?),
+            Shown::Stacked(value) => Shown::Stacked(value.copied(alloc)?),
+            Shown::HeatMap(value) => Shown::HeatMap(value.copied(alloc)?),
+            Shown::TrellisHistogram { groups, rest } => Shown::TrellisHistogram {
+                groups: copied_histograms(alloc, groups.as_slice())?,
+                rest: *rest,
+            },
+            Shown::TrellisHeatMap { groups, rest } => Shown::TrellisHeatMap {
+                groups: copied_heat_maps(alloc, groups.as_slice())?,
+                rest: *rest,
+            },
         })
     }
 }
@@ -86,6 +112,18 @@ pub fn finish(alloc: Global, view: &AnyView, s: &AnySummary) -> Mem<Shown>
             Shown::Histogram(view.value(alloc, s)?)
         }
         (AnyView::Cdf(view), AnySummary::Cdf(s)) => Shown::Cdf(view.value(alloc, s)?),
+        (AnyView::Stacked(view), AnySummary::Stacked(s)) => Shown::Stacked(view.value(alloc, s)?),
+        (AnyView::HeatMap(view), AnySummary::HeatMap(s)) => Shown::HeatMap(view.value(alloc, s)?),
+        (AnyView::TrellisHistogram(view), AnySummary::TrellisHistogram(s)) => {
+            Shown::TrellisHistogram {
+                groups: values_of_groups(alloc, &view.inner, s.groups())?,
+                rest: s.rest(),
+            }
+        }
+        (AnyView::TrellisHeatMap(view), AnySummary::TrellisHeatMap(s)) => Shown::TrellisHeatMap {
+            groups: values_of_groups(alloc, &view.inner, s.groups())?,
+            rest: s.rest(),
+        },
         _ => Shown::Distinct {
             more: false,
             values: Listed::new(alloc),
@@ -101,4 +139,26 @@ fn sum_shown(kind: Kind, sum: i128) -> Option<i128>
         Kind::Int => Some(sum),
         Kind::Date | Kind::Text => None,
     }
+}
+
+/// Equal histograms, in memory of their own.
+fn copied_histograms(alloc: Global, values: &[HistogramShown]) -> Mem<Listed<HistogramShown>>
+    ensures { IfOk result (λ copy. copy ≡ values.now) }
+{
+    let mut copy = Listed::new(alloc);
+    for value in values {
+        copy.push(value.copied(alloc)?)?;
+    }
+    Ok(copy)
+}
+
+/// Equal heat maps, in memory of their own.
+fn copied_heat_maps(alloc: Global, values: &[HeatMapShown]) -> Mem<Listed<HeatMapShown>>
+    ensures { IfOk result (λ copy. copy ≡ values.now) }
+{
+    let mut copy = Listed::new(alloc);
+    for value in values {
+        copy.push(value.copied(alloc)?)?;
+    }
+    Ok(copy)
 }

@@ -1,0 +1,2 @@
+pub mod GridCounts
+pub mod GridLoops

@@ -1,0 +1,18 @@
+use Rattle.std.proofs.Common.{rules}
+use Rattle.hv_view.specs.Stands.{StandsForAny}
+use Rattle.hv_view.proofs.any_view.AnyViewVizketch.copy.Goals.{in-Range-Range+in_ok-copy-in-Range-Range, in-Distinct-Distinct+in_ok-copy-in-Distinct-Distinct, in-Histogram-Histogram+in_ok-copy-in-Histogram-Histogram, in-Cdf-Cdf+in_ok-copy-in-Cdf-Cdf, in-Stacked-Stacked+in_ok-copy-in-Stacked-Stacked, in-HeatMap-HeatMap+in_ok-copy-in-HeatMap-HeatMap, in-TrellisHistogram-TrellisHistogram+in_ok-copy-in-TrellisHistogram-TrellisHistogram, in-TrellisHeatMap-TrellisHeatMap+in_ok-copy-in-TrellisHeatMap-TrellisHeatMap}
+use Rattle.hv_view.proofs.any_view.AnyViewVizketch.copy.Goals as goal
+
+-- src/any_view.rt
+pub returns : goal.returns
+unfolding StandsForAny
+returns c rows stands = elim c.match-self.branch [
+  | in-Range-Range+in_ok-copy-in-Range-Range w ↦ search rules
+  | in-Distinct-Distinct+in_ok-copy-in-Distinct-Distinct w ↦ search rules
+  | in-Histogram-Histogram+in_ok-copy-in-Histogram-Histogram w ↦ search rules
+  | in-Cdf-Cdf+in_ok-copy-in-Cdf-Cdf w ↦ search rules
+  | in-Stacked-Stacked+in_ok-copy-in-Stacked-Stacked w ↦ search rules
+  | in-HeatMap-HeatMap+in_ok-copy-in-HeatMap-HeatMap w ↦ search rules
+  | in-TrellisHistogram-TrellisHistogram+in_ok-copy-in-TrellisHistogram-TrellisHistogram w ↦ rw (w.in-TrellisHistogram-TrellisHistogram.is-0, w.result-is) (w.in_ok-copy-in-TrellisHistogram-TrellisHistogram.ensures rows (rw (w.in-TrellisHistogram-TrellisHistogram.is-0, w.in-TrellisHistogram-TrellisHistogram.is-1) at stands))
+  | in-TrellisHeatMap-TrellisHeatMap+in_ok-copy-in-TrellisHeatMap-TrellisHeatMap w ↦ rw (w.in-TrellisHeatMap-TrellisHeatMap.is-0, w.result-is) (w.in_ok-copy-in-TrellisHeatMap-TrellisHeatMap.ensures rows (rw (w.in-TrellisHeatMap-TrellisHeatMap.is-0, w.in-TrellisHeatMap-TrellisHeatMap.is-1) at stands))
+]

@@ -1,0 +1,45 @@
+use Rattle.std.proofs.Common.{rules, ◌∙◌, ap}
+use Rattle.hv_bucket.specs.Places.{buckets_len}
+use Rattle.hv_hist.specs.Histogram.{histogram_of}
+use Rattle.hv_hist.specs.Slots.{IsCounted}
+use Rattle.hv_grid.specs.Grids.{bucket_in, heat_map_of}
+use Rattle.hv_grid.specs.Slots.{IsHeatMapCounted}
+use Rattle.hv_view.specs.declared.shown.Shown.TheVariants as shown
+use Rattle.hv_view.specs.Stands.{ForEachGroup, StandsForAny}
+use Rattle.hv_view.specs.View.{of_each_bucket}
+use Rattle.hv_view.proofs.shown.finish.Goals.{in-Range-Range+in_ok-of-in-Range-Range+in_ok-of-in-Range-Range-2, in-Distinct-Distinct+in_ok-copied_cells-in-Distinct-Distinct, in-Histogram-Histogram+in_ok-value-in-Histogram-Histogram, in-Cdf-Cdf+in_ok-value-in-Cdf-Cdf, in-Stacked-Stacked+in_ok-value-in-Stacked-Stacked, in-HeatMap-HeatMap+in_ok-value-in-HeatMap-HeatMap, in-TrellisHistogram-TrellisHistogram+in_ok-values_of_groups-in-TrellisHistogram-TrellisHistogram, in-TrellisHeatMap-TrellisHeatMap+in_ok-values_of_groups-in-TrellisHeatMap-TrellisHeatMap, in_default, in_default-via-in-Range+in_default, in_default-via-in-Distinct+in_default, in_default-via-in-Histogram+in_default, in_default-via-in-Cdf+in_default, in_default-via-in-Stacked+in_default, in_default-via-in-HeatMap+in_default, in_default-via-in-TrellisHistogram+in_default, in_default-via-in-TrellisHeatMap+in_default}
+use Rattle.hv_view.proofs.shown.finish.Goals as goal
+
+-- src/shown.rt
+pub returns : goal.returns
+unfolding StandsForAny
+returns c rows stands = elim c.match-view.branch [
+  | in-Range-Range+in_ok-of-in-Range-Range+in_ok-of-in-Range-Range-2 w ↦ search rules
+  | in-Distinct-Distinct+in_ok-copied_cells-in-Distinct-Distinct w ↦ search rules
+  | in-Histogram-Histogram+in_ok-value-in-Histogram-Histogram w ↦ search rules
+  | in-Cdf-Cdf+in_ok-value-in-Cdf-Cdf w ↦ search rules
+  | in-Stacked-Stacked+in_ok-value-in-Stacked-Stacked w ↦ search rules
+  | in-HeatMap-HeatMap+in_ok-value-in-HeatMap-HeatMap w ↦ search rules
+  | in-TrellisHistogram-TrellisHistogram+in_ok-values_of_groups-in-TrellisHistogram-TrellisHistogram w ↦
+      let there : ForEachGroup w.in-TrellisHistogram-TrellisHistogram.view.groups (IsCounted w.in-TrellisHistogram-TrellisHistogram.view.inner.axis) rows w.in-TrellisHistogram-TrellisHistogram.s = rw (w.in-TrellisHistogram-TrellisHistogram.is-0, w.in-TrellisHistogram-TrellisHistogram.is-1) at stands in
+      let by = w.in-TrellisHistogram-TrellisHistogram.view.groups.0 in
+      rw (w.in-TrellisHistogram-TrellisHistogram.is-0, w.result-is)
+      (ap (λ gs. shown.TrellisHistogram gs w.rest.result) (w.in_ok-values_of_groups-in-TrellisHistogram-TrellisHistogram.ensures (bucket_in by) (buckets_len by.buckets) rows (rw w.groups.ensures there.each))
+      ∙ ap (λ n. shown.TrellisHistogram (of_each_bucket w.in-TrellisHistogram-TrellisHistogram.view.groups (histogram_of w.in-TrellisHistogram-TrellisHistogram.view.inner.axis) rows) n) (w.rest.ensures ∙ there.others))
+  | in-TrellisHeatMap-TrellisHeatMap+in_ok-values_of_groups-in-TrellisHeatMap-TrellisHeatMap w ↦
+      let there : ForEachGroup w.in-TrellisHeatMap-TrellisHeatMap.view.groups (IsHeatMapCounted w.in-TrellisHeatMap-TrellisHeatMap.view.inner.x w.in-TrellisHeatMap-TrellisHeatMap.view.inner.y) rows w.in-TrellisHeatMap-TrellisHeatMap.s = rw (w.in-TrellisHeatMap-TrellisHeatMap.is-0, w.in-TrellisHeatMap-TrellisHeatMap.is-1) at stands in
+      let by = w.in-TrellisHeatMap-TrellisHeatMap.view.groups.0 in
+      rw (w.in-TrellisHeatMap-TrellisHeatMap.is-0, w.result-is)
+      (ap (λ gs. shown.TrellisHeatMap gs w.rest-in-TrellisHeatMap-TrellisHeatMap.result) (w.in_ok-values_of_groups-in-TrellisHeatMap-TrellisHeatMap.ensures (bucket_in by) (buckets_len by.buckets) rows (rw w.groups-in-TrellisHeatMap-TrellisHeatMap.ensures there.each))
+      ∙ ap (λ n. shown.TrellisHeatMap (of_each_bucket w.in-TrellisHeatMap-TrellisHeatMap.view.groups (heat_map_of w.in-TrellisHeatMap-TrellisHeatMap.view.inner.x w.in-TrellisHeatMap-TrellisHeatMap.view.inner.y) rows) n) (w.rest-in-TrellisHeatMap-TrellisHeatMap.ensures ∙ there.others))
+  | in_default w ↦ elim w.in_default.branch [
+    | in_default-via-in-Range+in_default w' ↦ search rules
+    | in_default-via-in-Distinct+in_default w' ↦ search rules
+    | in_default-via-in-Histogram+in_default w' ↦ search rules
+    | in_default-via-in-Cdf+in_default w' ↦ search rules
+    | in_default-via-in-Stacked+in_default w' ↦ search rules
+    | in_default-via-in-HeatMap+in_default w' ↦ search rules
+    | in_default-via-in-TrellisHistogram+in_default w' ↦ search rules
+    | in_default-via-in-TrellisHeatMap+in_default w' ↦ search rules
+  ]
+]
