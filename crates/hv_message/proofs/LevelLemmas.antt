@@ -1,6 +1,6 @@
 -- A value's readings at two levels are the same where both levels are more than it nests.
-use Rattle.std.proofs.Common.{◌≡◌, ℕ, zero, suc, ◌≤◌, max, refl, arith, List, Option, Some, None, Result, Ok, Err, ap, subst, ◌∙◌}
-use Rattle.std.specs.Prelude.{◌∷◌, codes, option_and_then}
+use Rattle.std.proofs.Common.{◌≡◌, ℕ, zero, suc, ◌≤◌, max, refl, arith, List, Option, Some, None, Result, ap, subst, ◌∙◌}
+use Rattle.std.specs.Prelude.{◌∷◌, codes, option_and_then, option_map}
 use Rattle.std.specs.Cmp.Lexicographic.{slice_cmp}
 use Rattle.std.specs.Ordering.{nat_cmp, match_ordering}
 use Rattle.std.specs.declared.cmp.Ordering.{Ordering}
@@ -10,12 +10,11 @@ use Rattle.serde_json.specs.Read.{max_depth}
 use Rattle.serde_json.specs.Find.{as_array, get, get_member}
 use Rattle.hv_expr.specs.declared.expr.Expr.{Expr}
 use Rattle.hv_expr.specs.declared.expr.Expr.TheVariants as expr
-use Rattle.hv_expr.specs.declared.pred.Pred.{Pred}
 use Rattle.hv_lineage.specs.Lineages.{TermOver}
-use Rattle.hv_message.specs.declared.flaw.Flaw.{Flaw}
+use Rattle.hv_message.specs.declared.pred_asked.PredAsked.{PredAsked}
 use Rattle.hv_message.specs.declared.why.Why.{Why}
-use Rattle.hv_message.specs.Fields.{integer_at, text_at}
-use Rattle.hv_message.specs.Flaws.{all_of, both, map_ok, of_field, shaped}
+use Rattle.hv_message.specs.Fields.{all_read, integer_at, shaped, text_at}
+use Rattle.hv_message.specs.Flaws.{of_field}
 use Rattle.hv_message.specs.LineageTexts.{term_in, term_with}
 use Rattle.hv_message.specs.Trees.{expr_in, expr_with, join_in, levels, linear_in, parts_in, pred_in, pred_with, under}
 
@@ -45,7 +44,7 @@ field_depth key (object ms) d e = omega (arith, member_depth key ms d e)
 abbrev Agree : {A : Type 0} → (Data → A) → (Data → A) → ℕ → Type 0
 Agree f g top = (d : Data) → suc (depth d) ≤ top → f d ≡ g d
 
-shaped-same : {A B : Type 0} (o : Option A) (f g : A → Result B Flaw) → ((x : A) → f x ≡ g x) → shaped o f ≡ shaped o g
+shaped-same : {A B : Type 0} (o : Option A) (f g : A → Option B) → ((x : A) → f x ≡ g x) → shaped o f ≡ shaped o g
 shaped-same None f g same = refl
 shaped-same (Some x) f g same = same x
 
@@ -53,7 +52,7 @@ field-same : {A B : Type 0} (o : Option A) (f g : A → Result B Why) → ((x : 
 field-same None f g same = refl
 field-same (Some x) f g same = same x
 
-under-same : {A : Type 0} (f g : Data → Result A Flaw) (key : List ℕ) (value : Data) → Agree f g (depth value) → under f key value ≡ under g key value
+under-same : {A : Type 0} (f g : Data → Option A) (key : List ℕ) (value : Data) → Agree f g (depth value) → under f key value ≡ under g key value
 under-same f g key value agree = by (get key value) refl
   where
     by : (o : Option Data) → get key value ≡ o → shaped o f ≡ shaped o g
@@ -68,17 +67,17 @@ inner-same f g key value agree = by (get key value) refl
     by None e = refl
     by (Some d) e = agree d (field_depth key value d e)
 
-all-same : {A : Type 0} (f g : Data → Result A Flaw) (ds : Items) → ((d : Data) → depth d ≤ items_depth ds → f d ≡ g d) → all_of f ds ≡ all_of g ds
+all-same : {A : Type 0} (f g : Data → Option A) (ds : Items) → ((d : Data) → depth d ≤ items_depth ds → f d ≡ g d) → all_read f ds ≡ all_read g ds
 all-same f g no_items same = refl
 all-same f g (item d ds) same =
-    ap (λ one. both (λ first rest. first ∷ rest) one (all_of f ds)) (same d (omega arith))
-    ∙ ap (both (λ first rest. first ∷ rest) (g d)) (all-same f g ds (λ x le. same x (omega (arith, le))))
+    ap (option_and_then (λ first. option_map (λ rest. first ∷ rest) (all_read f ds))) (same d (omega arith))
+    ∙ ap (λ more. option_and_then (λ first. option_map (λ rest. first ∷ rest) more) (g d)) (all-same f g ds (λ x le. same x (omega (arith, le))))
 
-parts-same : (f g : Data → Result Pred Flaw) (value : Data) → Agree f g (depth value) → parts_in f value ≡ parts_in g value
+parts-same : (f g : Data → Option PredAsked) (value : Data) → Agree f g (depth value) → parts_in f value ≡ parts_in g value
 parts-same f g value agree = by (get (codes "of") value) refl
   where
     by : (o : Option Data) → get (codes "of") value ≡ o
-        → shaped (option_and_then as_array o) (all_of f) ≡ shaped (option_and_then as_array o) (all_of g)
+        → shaped (option_and_then as_array o) (all_read f) ≡ shaped (option_and_then as_array o) (all_read g)
     by None e = refl
     by (Some null) e = refl
     by (Some (boolean b)) e = refl
@@ -87,18 +86,22 @@ parts-same f g value agree = by (get (codes "of") value) refl
     by (Some (array ds)) e = all-same f g ds (λ d le. agree d (omega (arith, le, field_depth (codes "of") value (array ds) e)))
     by (Some (object ms)) e = refl
 
-pred_with-same : (f g : Data → Result Pred Flaw) (value : Data) (word : List ℕ) → Agree f g (depth value) → pred_with f value word ≡ pred_with g value word
+pred_with-same : (f g : Data → Option PredAsked) (value : Data) (word : List ℕ) → Agree f g (depth value) → pred_with f value word ≡ pred_with g value word
 pred_with-same f g value word agree = cc (parts-same f g value agree, under-same f g (codes "of") value agree)
 
-linear-same : (f g : Data → Result Expr Flaw) (value : Data) → Agree f g (depth value) → linear_in f value ≡ linear_in g value
+linear-same : (f g : Data → Option Expr) (value : Data) → Agree f g (depth value) → linear_in f value ≡ linear_in g value
 linear-same f g value agree =
     shaped-same (integer_at (codes "a") value) _ _ (λ a. shaped-same (integer_at (codes "b") value) _ _ (λ b.
-    ap (map_ok (expr.Linear a b)) (under-same f g (codes "of") value agree)))
+    ap (option_map (expr.Linear a b)) (under-same f g (codes "of") value agree)))
 
-join-same : (f g : Data → Result Expr Flaw) (value : Data) → Agree f g (depth value) → join_in f value ≡ join_in g value
-join-same f g value agree = cc (under-same f g (codes "left") value agree, under-same f g (codes "right") value agree)
+join-same : (f g : Data → Option Expr) (value : Data) → Agree f g (depth value) → join_in f value ≡ join_in g value
+join-same f g value agree =
+    ap (λ one. shaped one (λ left. shaped (text_at (codes "between") value) (λ between. option_map (expr.Join left between) (under f (codes "right") value))))
+    (under-same f g (codes "left") value agree)
+    ∙ shaped-same (under g (codes "left") value) _ _ (λ left. shaped-same (text_at (codes "between") value) _ _ (λ between.
+    ap (option_map (expr.Join left between)) (under-same f g (codes "right") value agree)))
 
-expr_with-same : (f g : Data → Result Expr Flaw) (value : Data) (word : List ℕ) → Agree f g (depth value) → expr_with f value word ≡ expr_with g value word
+expr_with-same : (f g : Data → Option Expr) (value : Data) (word : List ℕ) → Agree f g (depth value) → expr_with f value word ≡ expr_with g value word
 expr_with-same f g value word agree =
     cc (under-same f g (codes "of") value agree, linear-same f g value agree, join-same f g value agree)
 

@@ -1,3 +1,5 @@
+pub mod AskedFolds
+pub mod AskedNodes
 pub mod TreeLemmas
 pub mod TableLemmas
 pub mod LevelLemmas

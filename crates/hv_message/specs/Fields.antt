@@ -1,5 +1,5 @@
 -- The fields of a JSON object as messages read them, by serde_json's own words. Each is none where it is absent or has another shape.
-use Rattle.std.specs.Prelude.{ℕ, ℤ, List, [], ◌∷◌, Bool, Option, Some, option_map, option_and_then}
+use Rattle.std.specs.Prelude.{ℕ, ℤ, List, [], ◌∷◌, Bool, Option, Some, None, option_map, option_and_then}
 use Rattle.serde_json.specs.Data.{Data, Items, no_items, item}
 use Rattle.serde_json.specs.Find.{get, as_number, as_integer, as_bool, as_str, as_array}
 
@@ -15,6 +15,11 @@ bool_at key value = option_and_then as_bool (get key value)
 
 abbrev pub list_at : List ℕ → Data → Option Items
 list_at key value = option_and_then as_array (get key value)
+
+-- what is read of a field that is there
+abbrev pub shaped : {A B : Type 0} → Option A → (A → Option B) → Option B
+shaped None read = None
+shaped (Some x) read = read x
 
 -- what each item of a list reads as, none where one doesn't read
 abbrev pub all_read : {A : Type 0} → (Data → Option A) → Items → Option (List A)

@@ -17,7 +17,7 @@ use Rattle.hv_message.specs.declared.why.Why.TheVariants as why
 use Rattle.hv_message.specs.Fields.{integer_at, text_at}
 use Rattle.hv_message.specs.Flaws.{map_ok, and_then, of_field, within}
 use Rattle.hv_message.specs.Tables.{fits_table, loaded, table_in}
-use Rattle.hv_message.specs.Terms.{applied, derive_of, filter_of, project_of}
+use Rattle.hv_message.specs.Terms.{applied, derive_of, filter_of, fits_term, project_of}
 use Rattle.hv_message.specs.Views.{fits_view, planned, view_in}
 
 -- what a session knows: the catalog, its objects by number, the ids of its open requests, whether it heard `end`
@@ -63,10 +63,10 @@ shape value op =
     else if bytes_eq op (codes "end") then Ok End
     else Err why.Op
 
--- whether what is asked for is within its limits; a tree's own are told as it is read
+-- whether what is asked for is within its limits
 abbrev pub fits : Asked → Bool
 fits (Load table) = fits_table table
-fits (Over of term) = true
+fits (Over of term) = fits_term term
 fits (Info of) = true
 fits (View of view) = fits_view view
 fits (Cancel request) = true

@@ -1,5 +1,5 @@
 -- What a message or a term of a lineage's text puts over a lineage: what it asks for, and what it means.
-use Rattle.std.specs.Prelude.{List, Option, Some, None, Result, Ok, Err, codes}
+use Rattle.std.specs.Prelude.{Bool, true, Option, Some, None, Result, Ok, Err, codes}
 use Rattle.serde_json.specs.Data.{Data}
 use Rattle.hv_lineage.specs.Lineages.{TermOver, lineage_columns, filtered, projected, derived, filter_refusal, project_refusal, derive_refusal}
 use Rattle.hv_lineage.specs.declared.error.LineageErr.{LineageErr}
@@ -9,19 +9,26 @@ use Rattle.hv_message.specs.declared.asked.TermAsked.TheVariants.{Filter, Projec
 use Rattle.hv_message.specs.declared.why.Why.{Why}
 use Rattle.hv_message.specs.declared.why.Why.TheVariants as why
 use Rattle.hv_message.specs.Fields.{text_at, texts_at}
-use Rattle.hv_message.specs.Flaws.{and_then, flawless, map_ok, of_field}
-use Rattle.hv_message.specs.Trees.{under, whole_pred, whole_expr, dated_pred}
+use Rattle.hv_message.specs.Flaws.{and_then, of_field, within}
+use Rattle.hv_message.specs.Trees.{dated_pred, expr_in, fits_expr, fits_pred, levels, pred_in, under}
 
 -- ---- what is asked for
 
 abbrev pub filter_of : Data → Result TermAsked Why
-filter_of value = map_ok Filter (flawless (under whole_pred (codes "pred") value))
+filter_of value = of_field (under (pred_in levels) (codes "pred") value) (λ p. Ok (Filter p))
 
 abbrev pub project_of : Data → Result TermAsked Why
 project_of value = of_field (texts_at (codes "cols") value) (λ cols. Ok (Project cols))
 
 abbrev pub derive_of : Data → Result TermAsked Why
-derive_of value = of_field (text_at (codes "name") value) (λ name. map_ok (Derive name) (flawless (under whole_expr (codes "expr") value)))
+derive_of value = of_field (text_at (codes "name") value) (λ name. of_field (under (expr_in levels) (codes "expr") value) (λ e. Ok (Derive name e)))
+
+-- ---- its limits: those of its tree
+
+abbrev pub fits_term : TermAsked → Bool
+fits_term (Filter p) = fits_pred p
+fits_term (Project cols) = true
+fits_term (Derive name e) = fits_expr e
 
 -- ---- what it means
 
@@ -48,6 +55,6 @@ applied (Filter p) lineage = let dated = dated_pred (lineage_columns lineage) p 
 applied (Project cols) lineage = unless_refused (project_refusal lineage cols) (projected lineage cols)
 applied (Derive name expr) lineage = unless_refused (derive_refusal lineage name expr) (derived lineage name expr)
 
--- a lineage with what is read of a value over it
+-- a lineage with what is read of a value over it, where that is within its limits
 abbrev pub over : (Data → Result TermAsked Why) → Data → TermOver → Result TermOver Why
-over read value lineage = and_then (λ asked. applied asked lineage) (read value)
+over read value lineage = and_then (λ asked. applied asked lineage) (and_then (within fits_term) (read value))

@@ -7,11 +7,14 @@ ghost use Rattle.hv_message.specs.Axes as axes;
 ghost use Rattle.hv_message.specs.Constants as constant;
 ghost use Rattle.hv_message.specs.Messages as means;
 ghost use Rattle.hv_message.specs.Tables as table;
+ghost use Rattle.hv_message.specs.Terms as term;
 ghost use Rattle.hv_message.specs.Views as seen;
 
 use crate::constants::is_short;
+use crate::exprs::fits_expr;
+use crate::pred_asked::PredAsked;
 use crate::{MAX_COUNTS, MAX_DISTINCT, MAX_GROUPS};
-use hv_expr::{Expr, Pred};
+use hv_expr::Expr;
 use hv_value::{Kind, Listed, MAX_PARTITIONS, Text};
 
 /// What an operation asks for. The numbers of objects and requests are any whole numbers of 64 bits.
@@ -44,7 +47,7 @@ pub enum TableAsked {
 #[derive(Drop)]
 pub enum TermAsked {
     /// The rows of which a predicate holds.
-    Filter(Pred),
+    Filter(PredAsked),
     /// The columns with these names.
     Project(Listed<Text>),
     /// One more column, by its name, of an expression's values.
@@ -114,8 +117,9 @@ impl Asked {
     {
         match self {
             Asked::Load(table) => table.fits(),
+            Asked::Over(_, term) => term.fits(),
             Asked::View(_, view) => view.fits(),
-            Asked::Over(_, _) | Asked::Info(_) | Asked::Cancel(_) | Asked::End => true,
+            Asked::Info(_) | Asked::Cancel(_) | Asked::End => true,
         }
     }
 }
@@ -147,6 +151,18 @@ fn is_short_part(text: &Text) -> bool
     ensures { result ≡ table.is_short_part text.now }
 {
     text.as_str().len() < 1 << 26
+}
+
+impl TermAsked {
+    pub(crate) fn fits(&self) -> bool
+        ensures { result ≡ term.fits_term self.now }
+    {
+        match self {
+            TermAsked::Filter(pred) => pred.fits(),
+            TermAsked::Project(_) => true,
+            TermAsked::Derive(_, expr) => fits_expr(expr),
+        }
+    }
 }
 
 impl ViewAsked {

@@ -1,18 +1,17 @@
 //! Cells that a message gives as constants. What each means is said in specs/Constants.antt.
 
-ghost use Rattle.std.specs.Prelude.{◌≡◌, true, IfOk};
-ghost use Rattle.serde_json.specs.View.{view, number_view};
+ghost use Rattle.std.specs.Prelude.{◌≡◌, true};
+ghost use Rattle.serde_json.specs.View.{view};
 ghost use Rattle.hv_value.specs.Days.{day_of_text};
-ghost use Rattle.hv_message.specs.Flaws.{limited};
 ghost use Rattle.hv_message.specs.Meant.{IsField};
 ghost use Rattle.hv_message.specs.Constants as constant;
 
 use crate::asked::CellAsked;
 use crate::fields::{field, integer_of, needed};
 use crate::refused::Refused;
-use crate::{Flaw, MAX_CONSTANT_BYTES, Why};
-use hv_value::{Cell, Kind, Mem, Text, day_of};
-use serde_json::{Number, Value};
+use crate::{MAX_CONSTANT_BYTES, Why};
+use hv_value::{Cell, Kind, Text, day_of};
+use serde_json::Value;
 use std::alloc::Global;
 
 /// Whether a constant text is within its limit.
@@ -20,37 +19,6 @@ pub(crate) fn is_short(text: &str) -> bool
     ensures { result ≡ constant.is_short text.now }
 {
     text.len() <= MAX_CONSTANT_BYTES
-}
-
-/// A constant text of its own memory.
-pub(crate) fn short_text(alloc: Global, text: &str) -> Mem<Result<Text, Flaw>>
-    ensures { IfOk result (λ read. read ≡ constant.short_text text.now) }
-{
-    if is_short(text) {
-        Ok(Ok(Text::of(alloc, text)?))
-    } else {
-        Ok(Err(Flaw::Limit))
-    }
-}
-
-fn number_cell(number: &Number) -> Result<Cell, Flaw>
-    ensures { result ≡ constant.number_cell (number_view number.now) }
-{
-    match number.as_i64() {
-        Some(n) => Ok(Cell::Int(n)),
-        None if number.is_f64() => Err(Flaw::Field),
-        None => Err(Flaw::Limit),
-    }
-}
-
-fn text_in(alloc: Global, text: &str) -> Mem<Result<Cell, Flaw>>
-    ensures { IfOk result (λ read. read ≡ limited (constant.is_short text.now) (Cell.Text text.now)) }
-{
-    if is_short(text) {
-        Ok(Ok(Cell::Text(Text::of(alloc, text)?)))
-    } else {
-        Ok(Err(Flaw::Limit))
-    }
 }
 
 /// A constant: null, a whole number of at most 64 bits or a text.
@@ -100,29 +68,5 @@ fn day_or_text(text: Text) -> Cell
     match day_of(text.as_str().as_bytes()) {
         Some(day) => Cell::Date(day),
         None => Cell::Text(text),
-    }
-}
-
-/// A constant: null, a whole number or a text.
-pub(crate) fn told_cell(alloc: Global, value: &Value) -> Mem<Result<Cell, Flaw>>
-    ensures { IfOk result (λ read. read ≡ constant.told_cell (view value.now)) }
-{
-    match value {
-        Value::Null => Ok(Ok(Cell::Missing)),
-        Value::Bool(_) => Ok(Err(Flaw::Field)),
-        Value::Number(number) => Ok(number_cell(number)),
-        Value::String(text) => text_in(alloc, text.as_str()),
-        Value::Array(_) => Ok(Err(Flaw::Field)),
-        Value::Object(_) => Ok(Err(Flaw::Field)),
-    }
-}
-
-/// A constant beside a column of a kind: a text that names a day is that day beside a column of dates.
-pub(crate) fn dated(kind: Option<Kind>, cell: Cell) -> Cell
-    ensures { result ≡ constant.dated kind cell }
-{
-    match (kind, cell) {
-        (Some(Kind::Date), Cell::Text(text)) => day_or_text(text),
-        (_, cell) => cell,
     }
 }

@@ -6,13 +6,13 @@ mod axes;
 mod constants;
 mod exprs;
 mod fields;
-mod flaw;
 mod laws;
 mod limits;
 mod lineages;
 mod made;
 mod message;
 mod operations;
+mod pred_asked;
 mod preds;
 mod read;
 mod refused;
@@ -24,7 +24,6 @@ mod why;
 mod words;
 
 pub use asked::{Asked, AxisAsked, CellAsked, InnerAsked, TableAsked, TermAsked, ViewAsked};
-pub use flaw::Flaw;
 pub use laws::levels_are_enough;
 pub(crate) use limits::LEVELS;
 pub use limits::{
@@ -33,6 +32,7 @@ pub use limits::{
 };
 pub use lineages::{read_lineage, read_lineage_value};
 pub use message::{Message, Refusal};
+pub use pred_asked::PredAsked;
 pub use read::{id_in, read_message, read_value};
 pub use state::TalkState;
 pub use why::Why;

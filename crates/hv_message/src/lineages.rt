@@ -14,7 +14,7 @@ use crate::made::loaded;
 use crate::operations::shared;
 use crate::refused::Refused;
 use crate::tables::table_in;
-use crate::terms::{applied, derive_of, filter_of, project_of};
+use crate::terms::{derive_of, filter_of, over, project_of};
 use crate::{LEVELS, Refusal, Why};
 use hv_lineage::Lineage;
 use hv_value::Catalog;
@@ -68,15 +68,15 @@ fn term_with(
         "base" => Ok(shared(base)?),
         "filter" => {
             let of = inner_in(alloc, levels, base, value)?;
-            applied(alloc, &of, filter_of(alloc, value)?)
+            over(alloc, &of, filter_of(alloc, value)?)
         }
         "project" => {
             let of = inner_in(alloc, levels, base, value)?;
-            applied(alloc, &of, project_of(alloc, value)?)
+            over(alloc, &of, project_of(alloc, value)?)
         }
         "derive" => {
             let of = inner_in(alloc, levels, base, value)?;
-            applied(alloc, &of, derive_of(alloc, value)?)
+            over(alloc, &of, derive_of(alloc, value)?)
         }
         _ => Err(Refused::Word(Why::Field)),
     }

@@ -11,6 +11,7 @@ ghost use Rattle.hv_message.specs.declared.asked.Asked.TheVariants as asked;
 ghost use Rattle.hv_message.specs.Meant.{HasFitFactors, HasFitNumbers, IsAnswer, Tells};
 ghost use Rattle.hv_message.specs.Messages as means;
 ghost use Rattle.hv_message.specs.Messages.{is_open};
+ghost use Rattle.hv_message.specs.Terms.{fits_term};
 ghost use Rattle.hv_message.specs.Views.{fits_view};
 
 use crate::asked::{Asked, TermAsked, ViewAsked};
@@ -110,7 +111,8 @@ fn over(
     of: i128,
     term: TermAsked,
 ) -> Result<Message, Refused>
-    requires { HasFitFactors term }
+    requires limits { fits_term term ≡ true }
+    requires fit { HasFitFactors term }
     ensures { IsAnswer state.now id result (means.meaning state.now id (asked.Over of term)) }
 {
     let Some(lineage) = state.object(of) else {

@@ -2,9 +2,10 @@
 
 ghost use Rattle.std.specs.Prelude.{◌≡◌};
 
-use crate::{Flaw, Why};
+use crate::Why;
 use hv_lineage::LineageErr;
 use hv_value::Memory;
+use std::alloc::AllocError;
 
 /// A check failed, with its word, or memory was refused.
 #[derive(Clone, Copy, Debug, PartialEq, Eq)]
@@ -24,6 +25,17 @@ impl From<Memory> for Refused {
     }
 }
 
+impl From<AllocError> for Refused {
+    ghost use Rattle.std.specs.Prelude.{◌≡◌};
+    ghost use Rattle.hv_message.specs.declared.refused.Refused.TheVariants as refused;
+
+    ghost from_gives = { λ _ e. e ≡ refused.Memory };
+
+    fn from(_: AllocError) -> Refused {
+        Refused::Memory
+    }
+}
+
 impl From<Why> for Refused {
     ghost use Rattle.std.specs.Prelude.{◌≡◌};
     ghost use Rattle.hv_message.specs.declared.refused.Refused.TheVariants as refused;
@@ -32,21 +44,6 @@ impl From<Why> for Refused {
 
     fn from(why: Why) -> Refused {
         Refused::Word(why)
-    }
-}
-
-impl From<Flaw> for Refused {
-    ghost use Rattle.std.specs.Prelude.{◌≡◌};
-    ghost use Rattle.hv_message.specs.declared.refused.Refused.TheVariants as refused;
-    ghost use Rattle.hv_message.specs.Flaws.{flaw_word};
-
-    ghost from_gives = { λ flaw e. e ≡ refused.Word (flaw_word flaw) };
-
-    fn from(flaw: Flaw) -> Refused {
-        match flaw {
-            Flaw::Field => Refused::Word(Why::Field),
-            Flaw::Limit => Refused::Word(Why::Limit),
-        }
     }
 }
 

@@ -6,14 +6,16 @@ ghost use Rattle.std.specs.Arc.{arc_value};
 ghost use Rattle.serde_json.specs.View.{view};
 ghost use Rattle.hv_expr.specs.Checks.{has_fit_factors};
 ghost use Rattle.hv_lineage.specs.Lineages.{derive_refusal, derived, filter_refusal, filtered, project_refusal, projected};
+ghost use Rattle.hv_message.specs.Flaws.{and_then, within};
 ghost use Rattle.hv_message.specs.Meant.{HasFitFactors, IsMade, Tells};
 ghost use Rattle.hv_message.specs.Terms as term;
 
 use crate::asked::TermAsked;
-use crate::exprs::whole_expr;
+use crate::exprs::expr_in;
 use crate::fields::{field, name, names};
-use crate::preds::{dated_pred, whole_pred};
+use crate::preds::pred_in;
 use crate::refused::Refused;
+use crate::{LEVELS, Why};
 use hv_expr::{Expr, Pred};
 use hv_lineage::Lineage;
 use hv_value::{Listed, Text};
@@ -26,7 +28,7 @@ pub(crate) fn filter_of(alloc: Global, value: &Value) -> Result<TermAsked, Refus
     ensures value { Tells result (term.filter_of (view value.now)) }
     ensures fit { IfOk result HasFitFactors }
 {
-    let pred = whole_pred(alloc, field(value, "pred")?)??;
+    let pred = pred_in(alloc, LEVELS, field(value, "pred")?)?;
     Ok(TermAsked::Filter(pred))
 }
 
@@ -44,8 +46,25 @@ pub(crate) fn derive_of(alloc: Global, value: &Value) -> Result<TermAsked, Refus
     ensures fit { IfOk result HasFitFactors }
 {
     let name = name(alloc, value, "name")?;
-    let expr = whole_expr(alloc, field(value, "expr")?)??;
+    let expr = expr_in(alloc, LEVELS, field(value, "expr")?)?;
     Ok(TermAsked::Derive(name, expr))
+}
+
+/// The lineage with what is asked for over it, where that is within its limits.
+pub(crate) fn over(
+    alloc: Global,
+    lineage: &Arc<Lineage>,
+    asked: TermAsked,
+) -> Result<Arc<Lineage>, Refused>
+    requires { HasFitFactors asked }
+    ensures { IsMade result
+        (and_then (λ fit. term.applied fit (arc_value lineage.now)) (within term.fits_term asked)) }
+{
+    if asked.fits() {
+        applied(alloc, lineage, asked)
+    } else {
+        Err(Refused::Word(Why::Limit))
+    }
 }
 
 /// The lineage with what is put over it.
@@ -54,12 +73,13 @@ pub(crate) fn applied(
     lineage: &Arc<Lineage>,
     asked: TermAsked,
 ) -> Result<Arc<Lineage>, Refused>
-    requires { HasFitFactors asked }
+    requires limits { term.fits_term asked ≡ true }
+    requires fit { HasFitFactors asked }
     ensures { IsMade result (term.applied asked (arc_value lineage.now)) }
 {
     match asked {
         TermAsked::Filter(pred) => {
-            let dated = dated_pred(alloc, &pred, lineage.schema())?;
+            let dated = pred.over(alloc, lineage.schema())?;
             filtered(alloc, lineage, dated)
         }
         TermAsked::Project(cols) => projected(alloc, lineage, cols),

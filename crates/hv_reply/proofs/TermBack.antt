@@ -97,7 +97,7 @@ module _ (lineage : TermOver) (d : Data) (free : room_refusal lineage ≡ None) 
   filter_made : (p : Pred) → pred_fault (lineage_columns lineage) p ≡ None → PredBack (lineage_columns lineage) p
       → over filter_of (term_node_data (Term-F.Filter d p)) lineage ≡ Ok (filtered lineage p)
   unfolding serde_json_on_literals
-  filter_made p fine back = rw (back.reads, back.dated, fine, free) refl
+  filter_made p fine back = rw (back.reads, back.fits, back.dated, fine, free) refl
 
   project_made : (cols : List (List ℕ)) → choice_refusal (lineage_columns lineage) cols ≡ None
       → over project_of (term_node_data (Term-F.Project d cols)) lineage ≡ Ok (projected lineage cols)
@@ -107,7 +107,7 @@ module _ (lineage : TermOver) (d : Data) (free : room_refusal lineage ≡ None) 
   derive_made : (name : List ℕ) (e : Expr) → IsFitColumn (lineage_columns lineage) name e → IsGivenExpr e
       → over derive_of (term_node_data (Term-F.Derive d name e)) lineage ≡ Ok (derived lineage name e)
   unfolding serde_json_on_literals
-  derive_made name e fit given = rw (expr.whole_back (lineage_columns lineage) e fit.value given, fit.value, fit.named, free) refl
+  derive_made name e fit given = rw (expr.whole_back (lineage_columns lineage) e fit.value, expr.fits_back e given, fit.value, fit.named, free) refl
 
 -- ---- a term reads back, at as many levels as it is deep
 

@@ -6,8 +6,7 @@ use Rattle.hv_value.specs.Catalog.{Tables, parts_named}
 use Rattle.hv_value.specs.Days.{is_day_number}
 use Rattle.hv_value.specs.declared.cell.Cell.{Cell}
 use Rattle.hv_value.specs.declared.cell.Cell.TheVariants as cell
-use Rattle.hv_expr.specs.declared.expr.Expr.{Expr, fold-Expr}
-use Rattle.hv_expr.specs.declared.expr.Expr.TheOpen.{Expr-F}
+use Rattle.hv_expr.specs.declared.expr.Expr.{Expr}
 use Rattle.hv_expr.specs.declared.pred.Pred.{Pred, fold-Pred}
 use Rattle.hv_expr.specs.declared.pred.Pred.TheOpen.{Pred-F}
 use Rattle.hv_expr.specs.Sizes.{expr_nodes, pred_nodes}
@@ -18,6 +17,7 @@ use Rattle.hv_lineage.specs.declared.term.Term.TheOpen.{Term-F}
 use Rattle.hv_lineage.specs.Lineages.{TermOver}
 use Rattle.hv_message.specs.Constants.{is_short}
 use Rattle.hv_message.specs.LineageTexts.{lineage_of_text}
+use Rattle.hv_message.specs.Trees.{has_short_texts}
 use Rattle.hv_message.specs.declared.limits.TheConstants.{MAX_NODES}
 use Rattle.hv_reply.specs.Lineages.{lineage_text}
 
@@ -40,20 +40,6 @@ given_node (Pred-F.Not of) = of
 -- whether each constant of a predicate is
 unfoldable pub has_given_constants : Pred → Bool
 has_given_constants = fold-Pred Bool given_node
-
--- whether a node's text has at most 1,024 bytes, and those below it
-abbrev pub short_node : Expr-F Bool → Bool
-short_node (Expr-F.Col name) = true
-short_node (Expr-F.Year of) = of
-short_node (Expr-F.Month of) = of
-short_node (Expr-F.Day of) = of
-short_node (Expr-F.Length of) = of
-short_node (Expr-F.Linear a b of) = of
-short_node (Expr-F.Join left between right) = left && is_short between && right
-
--- whether each text between two others of an expression has
-unfoldable pub has_short_texts : Expr → Bool
-has_short_texts = fold-Expr Bool short_node
 
 -- a predicate within the limits of a message
 pub record IsGivenPred (p : Pred) : Type 0 where

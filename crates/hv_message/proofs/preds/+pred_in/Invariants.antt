@@ -1,6 +1,6 @@
-use Rattle.std.proofs.Common.{◌≡◌, ◌++◌, ◌+◌, ◌*◌, length}
+use Rattle.std.proofs.Common.{◌≡◌, ◌++◌, ◌+◌, ◌*◌, length, option_map}
 use Rattle.serde_json.specs.View.{items_view}
-use Rattle.hv_message.specs.Flaws.{all_of, both}
+use Rattle.hv_message.specs.Fields.{all_read}
 use Rattle.hv_message.specs.Trees as tree
 use Rattle.hv_message.proofs.preds.+pred_in.Given as goal
 
@@ -16,12 +16,13 @@ decreases-parts_in l = 4 * l.levels + 2
 abbrev pub decreases-all_of : goal.decreases-all_of
 decreases-all_of l = 4 * l.levels + 1
 
-abbrev pub decreases-not_in : goal.decreases-not_in
-decreases-not_in l = 4 * l.levels + 1
+abbrev pub decreases-operand_in : goal.decreases-operand_in
+decreases-operand_in l = 4 * l.levels + 1
 
+-- all are those found and then those of the rest
 abbrev pub invariant-all_of-loop-rest : goal.invariant-all_of-loop-rest
 invariant-all_of-loop-rest l =
-    all_of (tree.pred_in l.levels) (items_view l.list) ≡ both (λ a b. a ++ b) l.found (all_of (tree.pred_in l.levels) (items_view l.rest))
+    all_read (tree.pred_in l.levels) (items_view l.items) ≡ option_map (λ more. l.found ++ more) (all_read (tree.pred_in l.levels) (items_view l.rest))
 
 abbrev pub decreases-all_of-loop-rest : goal.decreases-all_of-loop-rest
 decreases-all_of-loop-rest l = length l.rest
