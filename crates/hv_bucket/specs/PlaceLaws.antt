@@ -1,5 +1,5 @@
 -- Each bucket that a cell is put into is one of the buckets, and the column of an axis that fits is there.
-use Rattle.std.proofs.Common.{◌≡◌, ◌≤◌, ◌<◌, ◌+◌, ◌-◌, ◌*◌, ◌/◌, ◌∙◌, refl, sym, ap, subst, ℕ, zero, suc, ℤ, Bool, true, false, List, length, Option, Some, None, ◌&&◌, T, ◌≤ℤ◌, arith, rules}
+use Rattle.std.proofs.Common.{◌≡◌, ◌≤◌, ◌<◌, ◌+◌, ◌*◌, ◌/◌, refl, sym, ap, subst, ℕ, zero, suc, ℤ, Bool, true, false, List, length, Option, Some, None, ◌&&◌, T, ◌≤ℤ◌, arith, rules}
 use Rattle.std.specs.Prelude.{◌-ℤ◌, int_le, unsigned_abs, if◌then◌else◌, nat_lt, nat_le, slice_get}
 use Rattle.std.specs.Cmp.{first_so, second_so}
 use Rattle.std.specs.List.{count_by}
@@ -12,7 +12,6 @@ use Rattle.hv_value.specs.declared.cell.Cell.TheVariants as cell
 use Rattle.hv_value.specs.declared.cell.Kind.{Kind}
 use Rattle.hv_value.specs.Schema.{Columns}
 use Rattle.hv_bucket.specs.declared.buckets.Axis.{Axis}
-use Rattle.hv_bucket.specs.declared.buckets.Place.{Place}
 use Rattle.hv_bucket.specs.declared.buckets.Place.TheVariants as place
 use Rattle.hv_bucket.specs.declared.buckets.Buckets.{Buckets}
 use Rattle.hv_bucket.specs.declared.buckets.Buckets.TheVariants as buckets

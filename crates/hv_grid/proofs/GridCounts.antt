@@ -1,5 +1,5 @@
 -- The counts of the slots of a chart of two axes are the parts of its value.
-use Rattle.std.proofs.Common.{◌≡◌, ◌≤◌, ◌<◌, ◌+◌, ◌*◌, ◌/◌, ◌%◌, ◌==◌, ◌∙◌, refl, sym, ap, ℕ, Bool, true, false, cond, not, ◌&&◌, eqb, List, [], ◌∷◌, map, get_or, arith}
+use Rattle.std.proofs.Common.{◌≡◌, ◌<◌, ◌+◌, ◌*◌, ◌/◌, ◌%◌, ◌==◌, ◌∙◌, refl, sym, ap, ℕ, Bool, true, false, cond, not, ◌&&◌, eqb, List, [], ◌∷◌, map, get_or, arith}
 use Rattle.std.specs.List.{count_by, range_with_len}
 use Rattle.std.proofs.Math.Arith.{digits_div, digits_mod}
 use Rattle.std.proofs.lemmas.Bool.{eq-eqb, eqb-false, eqb-true, ne_eqb}
@@ -13,7 +13,6 @@ use Rattle.hv_bucket.specs.declared.buckets.Place.TheVariants as place
 use Rattle.hv_bucket.specs.Axes.{is_bucket, is_missing, is_outside, place_in}
 use Rattle.hv_bucket.specs.PlaceLaws.{place-below}
 use Rattle.hv_bucket.specs.Places.{are_buckets, buckets_len}
-use Rattle.hv_sketch.specs.Tally.{count_in}
 use Rattle.hv_sketch.specs.TallyLaws.{tally-at}
 use Rattle.hv_grid.specs.declared.shown.HeatMapShown.{HeatMapShown}
 use Rattle.hv_grid.specs.declared.shown.StackedShown.{StackedShown}

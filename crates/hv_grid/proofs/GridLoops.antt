@@ -1,7 +1,6 @@
 -- Lists made place by place, and the slots of a grid.
-use Rattle.std.proofs.Common.{◌≡◌, ◌≤◌, ◌<◌, ◌+◌, ◌*◌, ◌++◌, ◌∙◌, refl, sym, ap, ℕ, List, [], ◌∷◌, map, arith, rules}
+use Rattle.std.proofs.Common.{◌≡◌, ◌<◌, ◌+◌, ◌*◌, ◌++◌, ◌∙◌, sym, ap, ℕ, List, [], ◌∷◌, map, arith, rules}
 use Rattle.std.specs.List.{range_with_len}
-use Rattle.std.proofs.Math.Nat.{mul-le-mul}
 use Rattle.std.proofs.lemmas.List.FromFn.{map-range_with_len_more}
 
 -- a value more of a list that is made place by place

@@ -1,5 +1,5 @@
 -- Running sums, as a loop over counts makes them.
-use Rattle.std.proofs.Common.{◌≡◌, ◌≤◌, ◌<◌, ◌+◌, ◌-◌, ◌++◌, ◌^◌, ◌∙◌, sym, ap, ℕ, List, [], ◌∷◌, length, map, take, get_or, min, arith}
+use Rattle.std.proofs.Common.{◌≡◌, ◌<◌, ◌+◌, ◌-◌, ◌++◌, ◌^◌, ◌∙◌, sym, ap, ℕ, List, [], ◌∷◌, length, map, take, get_or, min, arith}
 use Rattle.std.specs.List.{range_with_len, sum}
 use Rattle.std.proofs.lemmas.List.FromFn.{map-range_with_len_more}
 use Rattle.std.proofs.lemmas.List.Sums.{sum_by-take-le, sum_by_more}

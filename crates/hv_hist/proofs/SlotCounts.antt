@@ -1,5 +1,5 @@
 -- The counts of a chart's slots are the parts of its value, and those of the buckets are together at most the rows.
-use Rattle.std.proofs.Common.{◌≡◌, ◌≤◌, ◌<◌, ◌+◌, ◌^◌, ◌==◌, ◌∙◌, refl, sym, ap, subst, ℕ, zero, suc, Bool, true, false, cond, eqb, ltb, List, [], ◌∷◌, length, map, take, get_or, add-one, arith}
+use Rattle.std.proofs.Common.{◌≡◌, ◌≤◌, ◌<◌, ◌+◌, ◌^◌, ◌==◌, ◌∙◌, refl, sym, ap, subst, ℕ, zero, suc, Bool, true, false, cond, eqb, ltb, List, [], ◌∷◌, map, take, get_or, add-one, arith}
 use Rattle.std.specs.List.{count_by, range_with_len, sum}
 use Rattle.std.proofs.lemmas.Bool.{eq-eqb, eqb-false, eqb-true, le-ltb, lt-ltb, ltb-false, ltb-true, ne_eqb}
 use Rattle.std.proofs.lemmas.List.FromFn.{fill_by_all, get_or-map-range_with_len, length-map-range_with_len, sum_by-map-range_with_len_more, take-map-range_with_len}
@@ -12,7 +12,7 @@ use Rattle.hv_bucket.specs.declared.buckets.Place.TheVariants as place
 use Rattle.hv_bucket.specs.Axes.{is_bucket, is_missing, is_outside, place_in}
 use Rattle.hv_bucket.specs.PlaceLaws.{place-below}
 use Rattle.hv_bucket.specs.Places.{are_buckets, buckets_len}
-use Rattle.hv_sketch.specs.Tally.{count_in, tally_of}
+use Rattle.hv_sketch.specs.Tally.{count_in}
 use Rattle.hv_sketch.specs.TallyLaws.{tally-at}
 use Rattle.hv_hist.specs.declared.shown.CdfShown.{CdfShown}
 use Rattle.hv_hist.specs.declared.shown.HistogramShown.{HistogramShown}
