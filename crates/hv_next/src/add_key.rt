@@ -2,14 +2,14 @@
 //! last of them, and no key is built.
 
 ghost use Rattle.std.specs.Prelude.{◌≡◌, ◌≤◌, ◌<◌, length, take, option_map, IfOk, IfErr, OnOk, IsTrue, Some};
-ghost use Rattle.hv_value.specs.Orders.{AreInColumns, key_of};
+ghost use Rattle.hv_value.specs.Orders.{AreInColumns};
 ghost use Rattle.hv_value.specs.Rows.{Row};
 ghost use Rattle.hv_value.specs.Table.{row_from};
 ghost use Rattle.hv_next.specs.AddKey.{AreKept, IsPlace, with_key};
 ghost use Rattle.hv_next.specs.Next.{one_row};
 
-use crate::{CountedKeys, NextRow};
-use hv_value::{Cell, Listed, Mem, Order, OrderKey, Table};
+use crate::{CountedKeys, NextRow, key_at};
+use hv_value::{Mem, Order, Table};
 use std::alloc::Global;
 use std::cmp::Ordering;
 
@@ -37,7 +37,7 @@ pub(crate) fn add_key<T: Table>(
             Ok(())
         }
         Err(place) => {
-            let key = key_at(alloc, order.keys(), table, row)?;
+            let key = key_at(alloc, order, table, row)?;
             rows.insert(place, key)?;
             rows.truncate(k as usize);
             Ok(())
@@ -90,18 +90,4 @@ fn place_of<T: Table>(
         }
     }
     Err(low)
-}
-
-/// The key of a row that is there.
-fn key_at<T: Table>(alloc: Global, keys: &[OrderKey], table: &T, row: u32) -> Mem<Listed<Cell>>
-    requires row_there { option_map (λ found. found.number) (row_from row (T.rows table.now)) ≡ Some row }
-    requires cols_there { AreInColumns (T.columns table.now) keys.now }
-    ensures { (found : Row) → row_from row (T.rows table.now) ≡ Some found
-        → IfOk result (λ cells. cells ≡ key_of keys.now found) }
-{
-    let mut cells = Listed::new(alloc);
-    for key in keys {
-        cells.push(Cell::of(alloc, table.cell(row, key.col))?)?;
-    }
-    Ok(cells)
 }

@@ -1,24 +1,16 @@
 //! The next rows as a vizketch: its summary stands for rows where it is what specs/Next.antt says of them.
 
-ghost use Rattle.std.specs.Prelude.{◌≡◌, ◌↔◌, ◌<◌, length, option_map, take, true, IfOk, IsTrue, Some};
-ghost use Rattle.hv_value.specs.Cells.{is_of_kind};
-ghost use Rattle.hv_value.specs.Orders.{AreInColumns};
-ghost use Rattle.hv_value.specs.Rows.{Row};
-ghost use Rattle.hv_value.specs.Schema.{Columns};
-ghost use Rattle.hv_value.specs.Table.{row_from};
-ghost use Rattle.hv_sketch.specs.Columns.{kind_at};
+ghost use Rattle.std.specs.Prelude.{◌≡◌, option_map, take, IfOk};
 ghost use Rattle.hv_sketch.specs.Joining.{AreJoinable};
 ghost use Rattle.hv_sketch.specs.Rising.{IsRising, put_all};
-ghost use Rattle.hv_next.specs.Fits.{FitsNext, IsKeyOf, are_of_keys, is_of_column};
-ghost use Rattle.hv_next.specs.Next.{added, compare_rows, is_above};
+ghost use Rattle.hv_next.specs.Next.{added, compare_rows};
 ghost use Rattle.hv_next.specs.NextSums.{CanAdd};
 
 use crate::add_key::add_key;
 use crate::key_ranking::KeyRanking;
-use crate::summary::copied_cells;
-use crate::{CountedKeys, NextRow, NextSummary};
+use crate::{CountedKeys, NextRow, NextSummary, copied_key, fits_keys, is_above};
 use hv_sketch::{Gather, Vizketch, gather_rows, joined};
-use hv_value::{Cell, Kind, Listed, Mem, Order, OrderKey, Schema, Table};
+use hv_value::{Cell, Listed, Mem, Order, Schema, Table};
 use std::alloc::Global;
 
 /// The first different keys of an order above a key, at most so many, each with its number of rows.
@@ -48,39 +40,12 @@ impl NextRows {
     pub fn copied(&self, alloc: Global) -> Mem<NextRows>
         ensures { IfOk result (λ view. view ≡ self.now) }
     {
-        let after = match &self.after {
-            Some(after) => Some(copied_cells(alloc, after.as_slice())?),
-            None => None,
-        };
+        let after = copied_key(alloc, &self.after)?;
         Ok(NextRows {
             order: self.order.copied(alloc)?,
             after,
             k: self.k,
         })
-    }
-
-    /// Whether the key above which the rows are, if any, is one of these columns.
-    fn after_fits(&self, schema: &Schema) -> bool
-        requires { AreInColumns schema.now self.now.order }
-        ensures { IsTrue result ↔ IsKeyOf schema.now self.now.order self.now.after }
-    {
-        match &self.after {
-            Some(after) => are_cells_of(schema, self.order.keys(), after.as_slice()),
-            None => true,
-        }
-    }
-
-    /// Whether the key of a row that is there is above the one that was given.
-    fn is_above<T: Table>(&self, table: &T, row: u32) -> bool
-        requires fit { FitsNext self.now.order self.now.after (T.columns table.now) }
-        requires row_there { option_map (λ found. found.number) (row_from row (T.rows table.now)) ≡ Some row }
-        ensures { (found : Row) → row_from row (T.rows table.now) ≡ Some found
-            → result ≡ is_above self.now.order self.now.after found }
-    {
-        match &self.after {
-            Some(after) => self.order.compare_row(table, row, after.as_slice()).is_gt(),
-            None => true,
-        }
     }
 }
 
@@ -105,7 +70,7 @@ impl Gather for NextRows {
         table: &T,
         row: u32,
     ) -> Mem<()> {
-        if self.is_above(table, row) {
+        if is_above(&self.order, &self.after, table, row) {
             return add_key(alloc, &mut kept.rows, &self.order, self.k, table, row);
         }
         kept.before += 1;
@@ -125,7 +90,7 @@ impl Vizketch for NextRows {
     ghost fits_columns = { λ view columns. FitsNext view.order view.after columns };
 
     fn fits(&self, schema: &Schema) -> bool {
-        are_in_columns(schema, self.order.keys()) && self.after_fits(schema)
+        fits_keys(schema, &self.order, &self.after)
     }
 
     fn zero(&self, alloc: Global) -> Mem<NextSummary> {
@@ -171,53 +136,4 @@ fn joined_keys(
 {
     let rows = joined(alloc, &KeyRanking { order }, a, b, k as usize)?;
     Ok(CountedKeys::from_vec(rows))
-}
-
-/// Whether the column of each key is there.
-fn are_in_columns(schema: &Schema, keys: &[OrderKey]) -> bool
-    ensures { IsTrue result ↔ AreInColumns schema.now keys.now }
-{
-    for key in keys {
-        if schema.len() <= key.col {
-            return false;
-        }
-    }
-    true
-}
-
-/// Whether cells are one for each key, each missing or of the kind of the key's column.
-fn are_cells_of(schema: &Schema, keys: &[OrderKey], cells: &[Cell]) -> bool
-    requires { AreInColumns schema.now keys.now }
-    ensures { result ≡ are_of_keys schema.now keys.now cells.now }
-{
-    if keys.len() != cells.len() {
-        return false;
-    }
-    for place in 0..keys.len() {
-        if !is_cell_of(schema, &keys[place], &cells[place]) {
-            return false;
-        }
-    }
-    true
-}
-
-/// Whether a cell may stand in a key's column.
-fn is_cell_of(schema: &Schema, key: &OrderKey, cell: &Cell) -> bool
-    requires { key.now.col < length schema.now }
-    ensures { result ≡ is_of_column (kind_at schema.now key.now.col) cell.now }
-{
-    is_of_kind(schema.kind(key.col), cell)
-}
-
-/// Whether a cell may stand in a column of the kind.
-fn is_of_kind(kind: Kind, cell: &Cell) -> bool
-    ensures { result ≡ is_of_kind kind cell.now }
-{
-    match (kind, cell) {
-        (_, Cell::Missing) => true,
-        (Kind::Int, Cell::Int(_)) => true,
-        (Kind::Date, Cell::Date(day)) => -719_162 <= *day && *day <= 2_932_896,
-        (Kind::Text, Cell::Text(_)) => true,
-        _ => false,
-    }
 }

@@ -33,13 +33,15 @@ fn are_same(a: &NextRows, b: &NextRows) -> bool
     are_same_orders(&a.order, &b.order) && are_same_keys(&a.after, &b.after)
 }
 
-fn are_same_orders(a: &Order, b: &Order) -> bool
+/// Whether two orders are the same.
+pub fn are_same_orders(a: &Order, b: &Order) -> bool
     ensures { IsTrue result ↔ (a.now ≡ b.now) }
 {
     a == b
 }
 
-fn are_same_keys(a: &Option<Listed<Cell>>, b: &Option<Listed<Cell>>) -> bool
+/// Whether two keys are the same, or neither is there.
+pub fn are_same_keys(a: &Option<Listed<Cell>>, b: &Option<Listed<Cell>>) -> bool
     ensures { IsTrue result ↔ (a.now ≡ b.now) }
 {
     match (a, b) {

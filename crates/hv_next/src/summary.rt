@@ -6,6 +6,7 @@ ghost use Rattle.std.specs.List.{All, insert};
 ghost use Rattle.hv_next.specs.Next.{added};
 ghost use Rattle.hv_next.specs.declared.summary.NextRow.{NextRow};
 
+use crate::keys::copied_cells;
 use hv_value::{Cell, Listed, Mem};
 use std::alloc::Global;
 use std::marker::Model;
@@ -29,17 +30,6 @@ impl NextRow {
             count: self.count,
         })
     }
-}
-
-/// Copies of cells, as a list.
-pub(crate) fn copied_cells(alloc: Global, cells: &[Cell]) -> Mem<Listed<Cell>>
-    ensures { IfOk result (λ copy. copy ≡ cells.now) }
-{
-    let mut copy = Listed::new(alloc);
-    for cell in cells {
-        copy.push(Cell::of(alloc, cell.lent())?)?;
-    }
-    Ok(copy)
 }
 
 /// A list of keys, each with its number of rows.

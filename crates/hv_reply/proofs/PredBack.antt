@@ -1,14 +1,16 @@
 -- A predicate within the limits of messages reads back from its JSON. A day is read as a text, which is that day again beside a column of
 -- dates.
-use Rattle.std.proofs.Common.{◌≡◌, ◌+◌, ◌-◌, ◌≤◌, ◌∙◌, ◌++◌, ℕ, zero, suc, ℤ, pos, negsuc, List, [], ◌∷◌, map, sum, Bool, true, false, Option, Some, None, option_map, refl, sym, ap, subst, arith, if◌then◌else◌}
+use Rattle.std.proofs.Common.{◌≡◌, ◌+◌, ◌≤◌, ◌∙◌, ◌++◌, ℕ, zero, suc, ℤ, pos, negsuc, List, [], ◌∷◌, map, sum, Bool, true, false, Option, Some, None, option_map, refl, sym, ap, subst, arith, if◌then◌else◌}
 use Rattle.std.specs.Prelude.{nat_le, nat_lt, flat_map}
 use Rattle.std.specs.List.{list_all}
 use Rattle.std.specs.Cmp.{first_so, second_so}
 use Rattle.std.proofs.lemmas.Bool.{le-leb}
-use Rattle.serde_json.specs.Data.{Data}
+use Rattle.serde_json.specs.Data.{Data, number, string}
+use Rattle.serde_json.specs.Find.{of_integer}
 use Rattle.serde_json.specs.View.{items_of}
 use Rattle.serde_json.proofs.OnLiterals.{serde_json_on_literals}
 use Rattle.hv_value.specs.Civil.{text_of_day}
+use Rattle.hv_value.specs.Days.{is_day_number}
 use Rattle.hv_value.specs.Schema.{Columns}
 use Rattle.hv_value.specs.declared.cell.Cell.{Cell}
 use Rattle.hv_value.specs.declared.cell.Cell.TheVariants as cell
@@ -43,18 +45,24 @@ use Rattle.hv_reply.proofs.ExprBack.{not_deep}
 
 -- ---- constants
 
--- a constant before its column is known
+-- what a constant reads as before its column is known
 abbrev pub undated_cell : Cell → CellAsked
 undated_cell cell.Missing = given.Missing
 undated_cell (cell.Int n) = given.Number n
-undated_cell (cell.Date day) = given.Text (text_of_day day)
+undated_cell (cell.Date day) = if is_day_number day then given.Text (text_of_day day) else given.Number day
 undated_cell (cell.Text text) = given.Text text
+
+day_read : (day : ℤ) (named : Bool)
+    → cell_in (if named then string (text_of_day day) else number (of_integer day)) ≡ Some (if named then given.Text (text_of_day day) else given.Number day)
+day_read day true = refl
+day_read (pos n) false = refl
+day_read (negsuc n) false = refl
 
 cell_back : (c : Cell) → cell_in (cell_data c) ≡ Some (undated_cell c)
 cell_back cell.Missing = refl
 cell_back (cell.Int (pos n)) = refl
 cell_back (cell.Int (negsuc n)) = refl
-cell_back (cell.Date day) = refl
+cell_back (cell.Date day) = day_read day (is_day_number day)
 cell_back (cell.Text text) = refl
 
 ten_bytes : (day : ℤ) → is_short (text_of_day day) ≡ true
@@ -64,7 +72,7 @@ ten_bytes day = refl
 cell_fits : (c : Cell) → is_given c ≡ true → fits_cell (undated_cell c) ≡ true
 cell_fits cell.Missing given = refl
 cell_fits (cell.Int n) given = given
-cell_fits (cell.Date day) given = ten_bytes day
+cell_fits (cell.Date day) given = rw (given, ten_bytes day) refl
 cell_fits (cell.Text text) given = given
 
 -- beside a column of its kind it is the same again
@@ -76,7 +84,7 @@ dated_back (Some kind.Int) (cell.Date day) fine given = absurd (cc fine)
 dated_back (Some kind.Int) (cell.Text text) fine given = absurd (cc fine)
 dated_back (Some kind.Date) cell.Missing fine given = absurd (cc fine)
 dated_back (Some kind.Date) (cell.Int n) fine given = absurd (cc fine)
-dated_back (Some kind.Date) (cell.Date day) fine given = rw (day_back day given) refl
+dated_back (Some kind.Date) (cell.Date day) fine given = rw (given, day_back day given) refl
 dated_back (Some kind.Date) (cell.Text text) fine given = absurd (cc fine)
 dated_back (Some kind.Text) cell.Missing fine given = absurd (cc fine)
 dated_back (Some kind.Text) (cell.Int n) fine given = absurd (cc fine)
@@ -244,7 +252,7 @@ module _ (columns : Columns) where
 abbrev SamePred : Pred → Type 0
 SamePred p = asked_nodes (undated p) ≡ pred_nodes p
 
-all_same : (ps : List ((p : Pred) × SamePred p)) → map asked_nodes (map undated (map (λ e. e.0) ps)) ≡ map asked_nodes (map (λ e. e.0) ps)
+all_same : (ps : List ((p : Pred) × SamePred p)) → map asked_nodes (map undated (map (λ e. e.0) ps)) ≡ map pred_nodes (map (λ e. e.0) ps)
 all_same [] = refl
 all_same (p ∷ ps) = rw (p.1, all_same ps) refl
 

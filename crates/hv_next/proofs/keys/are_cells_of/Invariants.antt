@@ -1,6 +1,6 @@
 use Rattle.std.proofs.Common.{◌≡◌, drop}
 use Rattle.hv_next.specs.Fits.{are_of_keys}
-use Rattle.hv_next.proofs.next_rows.are_cells_of.Given as goal
+use Rattle.hv_next.proofs.keys.are_cells_of.Given as goal
 
 -- what is left of the keys and of the cells decides
 abbrev pub invariant-loop-place : goal.invariant-loop-place

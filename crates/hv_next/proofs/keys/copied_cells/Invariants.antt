@@ -1,5 +1,5 @@
 use Rattle.std.proofs.Common.{◌≡◌, take}
-use Rattle.hv_next.proofs.summary.copied_cells.Given as goal
+use Rattle.hv_next.proofs.keys.copied_cells.Given as goal
 
 -- the cells so far have been copied
 abbrev pub invariant-loop-cell : goal.invariant-loop-cell

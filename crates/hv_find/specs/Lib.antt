@@ -1,0 +1,7 @@
+pub mod Find
+pub mod FindLaws
+pub mod FindSums
+pub mod First
+pub mod Fits
+pub mod Least
+pub mod LeastLaws
