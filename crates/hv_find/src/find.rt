@@ -31,7 +31,12 @@ pub struct Find {
 impl Find {
     /// The rows where one of the cells in `cols` meets `test`, in an order, put at the key `after`. It takes no memory.
     pub fn new(cols: Vec<u32>, test: TextTest, order: Order, after: Option<Vec<Cell>>) -> Find
-        ensures { result ≡ record { cols = cols.items; test = test; order = order; after = option_map (λ cells. cells.items) after } }
+        ensures { result ≡ record {
+          cols = cols.items;
+          test = test;
+          order = order;
+          after = option_map (λ cells. cells.items) after;
+        } }
     {
         let after = match after {
             Some(cells) => Some(Listed::from_vec(cells)),

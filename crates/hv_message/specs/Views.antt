@@ -1,5 +1,5 @@
 -- Views that a message asks for: what is asked for, its limits, and what it means over columns.
-use Rattle.std.specs.Prelude.{ℕ, ◌*◌, ℤ, pos, unsigned_abs, int_le, nat_le, List, Bool, true, ◌&&◌, if◌then◌else◌, Option, Some, None, option_map, option_and_then, Result, Ok, Err, bytes_eq, codes}
+use Rattle.std.specs.Prelude.{ℕ, ◌*◌, pos, unsigned_abs, int_le, nat_le, List, Bool, true, ◌&&◌, if◌then◌else◌, Option, None, option_map, option_and_then, Result, bytes_eq, codes}
 use Rattle.serde_json.specs.Data.{Data}
 use Rattle.serde_json.specs.Find.{get}
 use Rattle.hv_value.specs.declared.cell.Kind.{Kind}
@@ -14,7 +14,6 @@ use Rattle.hv_message.specs.declared.asked.AxisAsked.{AxisAsked}
 use Rattle.hv_message.specs.declared.asked.InnerAsked.{InnerAsked}
 use Rattle.hv_message.specs.declared.asked.InnerAsked.TheVariants as inner
 use Rattle.hv_message.specs.declared.why.Why.{Why}
-use Rattle.hv_message.specs.declared.why.Why.TheVariants as why
 use Rattle.hv_message.specs.Axes.{are_few, axes_in, axis_in, buckets_asked, column_named, do_fit, fits_asked, one_axis, two_axes, three_axes}
 use Rattle.hv_message.specs.Flaws.{map_ok}
 use Rattle.hv_message.specs.Fields.{integer_at, text_at}

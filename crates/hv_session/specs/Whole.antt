@@ -3,7 +3,9 @@ use Rattle.std.specs.Prelude.{◌≡◌, List, Some}
 use Rattle.hv_value.specs.Rows.{Row}
 use Rattle.hv_lineage.specs.Flat.{Told, whole_rows}
 use Rattle.hv_lineage.specs.Lineages.{TermOver, lineage_columns}
-use Rattle.hv_view.specs.Plans.{AreRowsUnder}
+use Rattle.hv_view.specs.declared.plan.Plan.{Plan}
+use Rattle.hv_view.specs.declared.shown.Shown.{Shown}
+use Rattle.hv_view.specs.Plans.{AreRowsUnder, IsFirstValue}
 
 -- the rows are told, each of them has a cell for each column, and this holds of them
 pub record IsWhole (told : Told) (lineage : TermOver) (Holds : List Row → Type 0) : Type 0 where
@@ -11,3 +13,7 @@ pub record IsWhole (told : Told) (lineage : TermOver) (Holds : List Row → Type
   pub is : whole_rows told lineage ≡ Some rows
   pub under : AreRowsUnder (lineage_columns lineage) rows
   pub holds : Holds rows
+
+-- the value is that of the plan's first view over rows under the lineage's columns
+abbrev pub IsFirstOf : Plan → TermOver → Shown → List Row → Type 0
+IsFirstOf plan lineage first rows = IsFirstValue plan (lineage_columns lineage) rows first

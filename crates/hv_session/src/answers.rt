@@ -8,10 +8,11 @@ ghost use Rattle.hv_lineage.specs.Flat.{Told, part_bytes, whole_rows};
 ghost use Rattle.hv_lineage.specs.Lineages.{lineage_columns, lineage_parts};
 ghost use Rattle.hv_session.specs.Held.{IsFit};
 ghost use Rattle.hv_session.specs.Talk.{Answers, IsFinal};
-ghost use Rattle.hv_session.specs.Whole.{IsWhole};
-ghost use Rattle.hv_view.specs.Plans.{FitsPlan, OfPlan};
+ghost use Rattle.hv_session.specs.Whole.{IsFirstOf, IsWhole};
+ghost use Rattle.hv_view.specs.Plans.{FitsPlan, IsNext, OfPlan};
 ghost use Rattle.hv_view.specs.Stands.{FitsAny};
 ghost use Rattle.hv_view.specs.View.{IsView};
+ghost use Rattle.hv_view.specs.declared.plan.Second.TheVariants as next;
 
 use crate::OpenRequest;
 use hv_lineage::{Base, Lineage};
@@ -74,22 +75,61 @@ fn shown_of(alloc: Global, view: &AnyView, lineage: &Lineage) -> Mem<Shown>
     Ok(shown)
 }
 
+/// The value of a plan's first view over all the rows of a lineage.
+fn first_of(alloc: Global, plan: &Plan, lineage: &Lineage) -> Mem<Shown>
+    requires { FitsPlan plan.now (lineage_columns lineage.now) }
+    ensures { IfOk result (λ first. (told : Told) → IsWhole told lineage.now (IsFirstOf plan.now lineage.now first)) }
+{
+    let view = first_view(alloc, plan, lineage.schema())?;
+    let first = shown_of(alloc, &view, lineage)?;
+    Ok(first)
+}
+
+/// A plan's value over all the rows of a lineage, of the value of its first view there and that of its second.
+fn concluded(
+    alloc: Global,
+    plan: &Plan,
+    lineage: &Lineage,
+    first: &Shown,
+    view: &AnyView,
+) -> Mem<Shown>
+    requires fit { FitsPlan plan.now (lineage_columns lineage.now) }
+    requires whole { (told : Told) → IsWhole told lineage.now (IsFirstOf plan.now lineage.now first.now) }
+    requires follows { IsNext plan.now (lineage_columns lineage.now) first.now (next.View view.now) }
+    requires fits { FitsAny view.now (lineage_columns lineage.now) }
+    ensures { IfOk result (λ shown. (told : Told) → IsWhole told lineage.now (λ rows. OfPlan plan.now rows rows shown)) }
+{
+    let second = shown_of(alloc, view, lineage)?;
+    let value = conclude(alloc, plan, first, second)?;
+    Ok(value)
+}
+
+/// A plan's value over all the rows of a lineage, of the value of its first view there.
+fn value_after(alloc: Global, plan: &Plan, lineage: &Lineage, first: &Shown) -> Mem<Shown>
+    requires fit { FitsPlan plan.now (lineage_columns lineage.now) }
+    requires whole { (told : Told) → IsWhole told lineage.now (IsFirstOf plan.now lineage.now first.now) }
+    ensures { IfOk result (λ shown. (told : Told) → IsWhole told lineage.now (λ rows. OfPlan plan.now rows rows shown)) }
+{
+    let next = then(alloc, plan, lineage.schema(), first)?;
+    match next {
+        Second::Value(value) => Ok(value),
+        Second::View(view) => {
+            let value = concluded(alloc, plan, lineage, first, &view);
+            drop(view);
+            value
+        }
+    }
+}
+
 /// A plan's value over all the rows of a lineage.
 fn value_of(alloc: Global, plan: &Plan, lineage: &Lineage) -> Mem<Shown>
     requires { FitsPlan plan.now (lineage_columns lineage.now) }
     ensures { IfOk result (λ shown. (told : Told) → IsWhole told lineage.now (λ rows. OfPlan plan.now rows rows shown)) }
 {
-    let schema = lineage.schema();
-    let view = first_view(alloc, plan, schema)?;
-    let first = shown_of(alloc, &view, lineage)?;
-    let next = then(alloc, plan, schema, &first)?;
-    match next {
-        Second::Value(value) => Ok(value),
-        Second::View(view) => {
-            let second = shown_of(alloc, &view, lineage)?;
-            conclude(alloc, plan, &first, second)
-        }
-    }
+    let first = first_of(alloc, plan, lineage)?;
+    let value = value_after(alloc, plan, lineage, &first);
+    drop(first);
+    value
 }
 
 /// The value of a request over all partitions.

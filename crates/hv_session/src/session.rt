@@ -168,7 +168,7 @@ impl Session {
     {
         self.state.drop_id(id);
         if let Some(place) = place_of(self.requests.as_slice(), id) {
-            self.requests.remove(place);
+            drop(self.requests.remove(place));
         }
     }
 
