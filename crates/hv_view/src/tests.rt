@@ -2,6 +2,7 @@
 //! and on several, are told by the scripts of the folder tests/.
 
 ghost use Rattle.std.specs.Prelude.{◌≡◌, [], ◌∷◌, codes, IfOk};
+ghost use Rattle.hv_view.specs.Plans.{FitsPlan, IsFirstValue};
 ghost use Rattle.hv_view.specs.View.{IsView};
 ghost use Rattle.hv_value.specs.Cells.{cell_lent};
 ghost use Rattle.hv_value.specs.Rows.{int_cell};
@@ -142,25 +143,58 @@ fn of_no_rows(alloc: Global, view: &AnyView) -> Mem<Shown>
     finish(alloc, view, &view.zero(alloc)?)
 }
 
-/// The value of a plan of one view over no rows.
-fn planned(alloc: Global, schema: &Schema, view: &AnyView) -> Result<Shown, Fail> {
-    if !view.fits(schema) {
-        return Err(Fail::from("the view fits"));
-    }
-    let plan = Plan::One(view.copied(alloc)?).copied(alloc)?;
-    let first = of_no_rows(alloc, &first_view(alloc, &plan, schema)?)?;
-    match then(alloc, &plan, schema, &first)? {
-        Second::Value(value) => Ok(conclude(alloc, &plan, &first, value)?),
+/// The value of a plan of one view over no rows, of the value of its first view over them.
+fn after_first(alloc: Global, plan: &Plan, schema: &Schema, first: &Shown) -> Result<Shown, Fail>
+    requires fit { FitsPlan plan.now schema.now }
+    requires shown { IsFirstValue plan.now schema.now [] first.now }
+{
+    match then(alloc, plan, schema, first)? {
+        Second::Value(value) => Ok(conclude(alloc, plan, first, value)?),
         Second::View(_) => Err(Fail::from("no second view")),
+    }
+}
+
+/// The value of a plan's first view over no rows.
+fn first_of(alloc: Global, plan: &Plan, schema: &Schema) -> Mem<Shown>
+    requires { FitsPlan plan.now schema.now }
+    ensures { IfOk result (λ first. IsFirstValue plan.now schema.now [] first) }
+{
+    let view = first_view(alloc, plan, schema)?;
+    let first = of_no_rows(alloc, &view);
+    drop(view);
+    first
+}
+
+/// The value of a plan over no rows.
+fn planned(alloc: Global, plan: &Plan, schema: &Schema) -> Result<Shown, Fail>
+    requires { FitsPlan plan.now schema.now }
+{
+    let first = first_of(alloc, plan, schema)?;
+    let value = after_first(alloc, plan, schema, &first);
+    drop(first);
+    value
+}
+
+/// A copy of the plan of the range of the first column, where it is the same.
+fn range_plan(alloc: Global) -> Result<Plan, Fail>
+    ensures { IfOk result (λ plan. plan ≡ Plan.One (AnyView.Range (record { col = 0; kind = kind.Int }))) }
+{
+    let plan = Plan::One(AnyView::Range(Range::new(0, Kind::Int)));
+    let copy = plan.copied(alloc)?;
+    if plan.same(&copy) {
+        Ok(copy)
+    } else {
+        Err(Fail::from("the copy is the same"))
     }
 }
 
 #[test]
 fn a_plan_of_one_view_has_its_value(rt: HostRuntime) -> Result<(), Fail> {
-    let view = AnyView::Range(Range::new(0, Kind::Int));
-    assert!(rt; view.same(&view.copied(rt.alloc())?));
-    let value = planned(rt.alloc(), &one_column(rt.alloc())?, &view)?.copied(rt.alloc())?;
-    let Shown::Range { count, sum, .. } = value else {
+    let schema = one_column(rt.alloc())?;
+    let plan = range_plan(rt.alloc())?;
+    let value = planned(rt.alloc(), &plan, &schema);
+    drop(plan);
+    let Shown::Range { count, sum, .. } = value? else {
         return Err(Fail::from("a range"));
     };
     assert_eq!(rt; (count, sum), (0, Some(0)));
