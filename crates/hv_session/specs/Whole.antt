@@ -5,7 +5,7 @@ use Rattle.hv_lineage.specs.Flat.{Told, whole_rows}
 use Rattle.hv_lineage.specs.Lineages.{TermOver, lineage_columns}
 use Rattle.hv_view.specs.declared.plan.Plan.{Plan}
 use Rattle.hv_view.specs.declared.shown.Shown.{Shown}
-use Rattle.hv_view.specs.Plans.{AreRowsUnder, IsFirstValue}
+use Rattle.hv_view.specs.Plans.{AreRowsUnder, IsFirstValue, IsSecondValue}
 
 -- the rows are told, each of them has a cell for each column, and this holds of them
 pub record IsWhole (told : Told) (lineage : TermOver) (Holds : List Row → Type 0) : Type 0 where
@@ -17,3 +17,7 @@ pub record IsWhole (told : Told) (lineage : TermOver) (Holds : List Row → Type
 -- the value is that of the plan's first view over rows under the lineage's columns
 abbrev pub IsFirstOf : Plan → TermOver → Shown → List Row → Type 0
 IsFirstOf plan lineage first rows = IsFirstValue plan (lineage_columns lineage) rows first
+
+-- the value is that of the view that follows the first value, over rows under the lineage's columns
+abbrev pub IsSecondOf : Plan → TermOver → Shown → Shown → List Row → Type 0
+IsSecondOf plan lineage first second rows = IsSecondValue plan (lineage_columns lineage) first rows second

@@ -8,11 +8,10 @@ ghost use Rattle.hv_lineage.specs.Flat.{Told, part_bytes, whole_rows};
 ghost use Rattle.hv_lineage.specs.Lineages.{lineage_columns, lineage_parts};
 ghost use Rattle.hv_session.specs.Held.{IsFit};
 ghost use Rattle.hv_session.specs.Talk.{Answers, IsFinal};
-ghost use Rattle.hv_session.specs.Whole.{IsFirstOf, IsWhole};
-ghost use Rattle.hv_view.specs.Plans.{FitsPlan, IsNext, OfPlan};
+ghost use Rattle.hv_session.specs.Whole.{IsFirstOf, IsSecondOf, IsWhole};
+ghost use Rattle.hv_view.specs.Plans.{FitsPlan, OfPlan};
 ghost use Rattle.hv_view.specs.Stands.{FitsAny};
 ghost use Rattle.hv_view.specs.View.{IsView};
-ghost use Rattle.hv_view.specs.declared.plan.Second.TheVariants as next;
 
 use crate::OpenRequest;
 use hv_lineage::{Base, Lineage};
@@ -91,15 +90,14 @@ fn concluded(
     plan: &Plan,
     lineage: &Lineage,
     first: &Shown,
-    view: &AnyView,
+    second: Shown,
 ) -> Mem<Shown>
     requires fit { FitsPlan plan.now (lineage_columns lineage.now) }
-    requires whole { (told : Told) → IsWhole told lineage.now (IsFirstOf plan.now lineage.now first.now) }
-    requires follows { IsNext plan.now (lineage_columns lineage.now) first.now (next.View view.now) }
-    requires fits { FitsAny view.now (lineage_columns lineage.now) }
+    requires first { (told : Told) → IsWhole told lineage.now (IsFirstOf plan.now lineage.now first.now) }
+    requires second { (told : Told) → IsWhole told lineage.now (IsSecondOf plan.now lineage.now first.now second) }
     ensures { IfOk result (λ shown. (told : Told) → IsWhole told lineage.now (λ rows. OfPlan plan.now rows rows shown)) }
 {
-    let second = shown_of(alloc, view, lineage)?;
+    let _ = lineage;
     let value = conclude(alloc, plan, first, second)?;
     Ok(value)
 }
@@ -114,9 +112,9 @@ fn value_after(alloc: Global, plan: &Plan, lineage: &Lineage, first: &Shown) -> 
     match next {
         Second::Value(value) => Ok(value),
         Second::View(view) => {
-            let value = concluded(alloc, plan, lineage, first, &view);
+            let second = shown_of(alloc, &view, lineage);
             drop(view);
-            value
+            concluded(alloc, plan, lineage, first, second?)
         }
     }
 }
