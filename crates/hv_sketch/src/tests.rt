@@ -1,7 +1,7 @@
-//! Views of rows alone: their count, which of them have a cell, two counts as a pair in one group over two partitions,
+//! Views of rows alone: their count, which of them have a cell, two counts as a pair in one group over one partition and over two,
 //! and columns as views ask for them.
 
-ghost use Rattle.std.specs.Prelude.{◌≡◌, [], ◌∷◌, codes, IfOk};
+ghost use Rattle.std.specs.Prelude.{◌≡◌, [], ◌∷◌, codes, IfOk, IfSome};
 ghost use Rattle.hv_value.specs.Cells.{cell_lent};
 ghost use Rattle.hv_value.specs.Rows.{int_cell};
 ghost use Rattle.hv_value.specs.declared.cell.Kind.TheVariants as kind;
@@ -316,18 +316,27 @@ impl Groups for Present {
     }
 }
 
-/// How many rows are in no group, and in each group by both halves of a pair, of two partitions.
-fn counted(alloc: Global, low: &TwoRows, high: &TwoRows) -> Result<(u64, Vec<(u64, u64)>), Fail>
+/// How many rows are in no group, and in each group by both halves of a pair, of one partition or of two.
+fn counted(
+    alloc: Global,
+    low: &TwoRows,
+    high: Option<&TwoRows>,
+) -> Result<(u64, Vec<(u64, u64)>), Fail>
     requires low { low.now.part ≡ 0 }
-    requires high { high.now.part ≡ 1 }
+    requires high { IfSome high (λ table. table.now.part ≡ 1) }
 {
     let view = Grouped::new(Present, Pair::new(RowCount, RowCount));
-    if !view.fits(&low.schema) || !view.fits(&high.schema) {
+    if !view.fits(&low.schema) {
         return Err(Fail::from("the view fits"));
     }
     let mut acc = view.zero(alloc)?;
     add_part(alloc, &view, &mut acc, low)?;
-    add_part(alloc, &view, &mut acc, high)?;
+    if let Some(high) = high {
+        if !view.fits(&high.schema) {
+            return Err(Fail::from("the view fits"));
+        }
+        add_part(alloc, &view, &mut acc, high)?;
+    }
     let copy = view.copy(alloc, &acc)?;
     let mut counts = Vec::new(alloc);
     for both in copy.groups() {
@@ -347,7 +356,13 @@ fn each_group_counts_its_own_rows(rt: HostRuntime) -> Result<(), Fail> {
     ] {
         let low = two_rows(alloc, 0, cells[0], cells[1])?;
         let high = two_rows(alloc, 1, cells[2], cells[3])?;
-        let (found, counts) = counted(alloc, &low, &high)?;
+        let (found, counts) = counted(alloc, &low, Some(&high))?;
+        assert_eq!(rt; found, rest);
+        assert_eq!(rt; counts.as_slice(), [(count, count)].as_slice());
+    }
+    for (cells, rest, count) in [([None, None], 2, 0), ([Some(1), None], 1, 1)] {
+        let only = two_rows(alloc, 0, cells[0], cells[1])?;
+        let (found, counts) = counted(alloc, &only, None)?;
         assert_eq!(rt; found, rest);
         assert_eq!(rt; counts.as_slice(), [(count, count)].as_slice());
     }
