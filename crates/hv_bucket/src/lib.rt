@@ -3,6 +3,7 @@
 
 mod buckets;
 mod error;
+mod keys;
 mod numbers;
 #[cfg(test)]
 mod tests;

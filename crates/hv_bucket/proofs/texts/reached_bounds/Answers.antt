@@ -1,11 +1,12 @@
-use Rattle.std.proofs.Common.{rules}
-use Rattle.std.proofs.lemmas.List.Sorted.{IsPartitionPoint-from_clause}
-use Rattle.hv_bucket.specs.Buckets.{is_reached}
-use Rattle.hv_bucket.proofs.Reached.{point-counts, reached-first}
+use Rattle.std.proofs.Common.{◌∙◌, subst}
+use Rattle.hv_bucket.specs.Keys.{IsKey}
+use Rattle.hv_bucket.proofs.Keyed.{short-counts}
 use Rattle.hv_bucket.proofs.texts.reached_bounds.Goals as goal
 
--- the boundaries that aren't above the text come first
-pub returns-clause-value : goal.returns-clause-value
-returns-clause-value c =
-    point-counts (is_reached c.args.text.now) _ _ c.partition_point.ensures.bound
-    (IsPartitionPoint-from_clause (is_reached c.args.text.now) _ _ c.partition_point.ensures.partitioned (reached-first c.args.text.now _ c.requires) (λ a r q k. search rules))
+-- the keys of the boundaries are counted in their place
+pub returns-then-text-lt-LONG-clause-value : goal.returns-then-text-lt-LONG-clause-value
+returns-then-text-lt-LONG-clause-value c =
+    c.reached_keys.ensures
+    ∙ short-counts c.args.text.now c.key_of-key.result
+    (subst (λ t. IsKey t c.key_of-key.result) c.as_bytes.ensures.value c.key_of-key.ensures)
+    c.if-text-lt-LONG.true c.args.bounds.now c.args.keys.now c.if-keys-bounds.false c.requires.keys
