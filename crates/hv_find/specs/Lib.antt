@@ -3,5 +3,6 @@ pub mod FindLaws
 pub mod FindSums
 pub mod First
 pub mod Fits
+pub mod Hashes
 pub mod Least
 pub mod LeastLaws

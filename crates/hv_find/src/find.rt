@@ -29,7 +29,8 @@ pub struct Find {
 }
 
 impl Find {
-    /// The rows where one of the cells in `cols` meets `test`, in an order, put at the key `after`. It takes no memory.
+    /// Finds the rows where the cell of one of the columns `cols` is a text that meets `test`, and tells those whose key
+    /// in `order` is above `after` from the others. It takes no memory.
     pub fn new(cols: Vec<u32>, test: TextTest, order: Order, after: Option<Vec<Cell>>) -> Find
         ensures { result ≡ record {
           cols = cols.items;
@@ -81,7 +82,8 @@ impl Gather for Find {
 
     type Gathered = Searching;
 
-    ghost gathers = { λ view part rows kept. IsReadyTest view.test kept.ready × IsFound view rows kept.found };
+    ghost gathers = { λ view part rows kept. IsReadyTest view.test kept.ready
+        × IsFound view rows kept.found };
 
     ghost takes = { λ view columns. FitsFind view columns };
 

@@ -19,7 +19,8 @@ pub(crate) fn put_row<T: Table>(
     table: &T,
     row: u32,
 ) -> Mem<()>
-    requires row_there { option_map (λ found. found.number) (row_from row (T.rows table.now)) ≡ Some row }
+    requires row_there { option_map (λ found. found.number) (row_from row (T.rows table.now))
+        ≡ Some row }
     requires cols_there { AreInColumns (T.columns table.now) order.now }
     requires one_each { IfSome least.old (λ key. length key ≡ length order.now) }
     ensures ok { OnOk result ((found : Row) → row_from row (T.rows table.now) ≡ Some found
@@ -52,7 +53,8 @@ pub(crate) fn put_key(
 
 /// Whether a row's key is the lesser of it and the least key so far, where there is one.
 fn is_row_less<T: Table>(least: &Option<Listed<Cell>>, order: &Order, table: &T, row: u32) -> bool
-    requires row_there { option_map (λ found. found.number) (row_from row (T.rows table.now)) ≡ Some row }
+    requires row_there { option_map (λ found. found.number) (row_from row (T.rows table.now))
+        ≡ Some row }
     requires cols_there { AreInColumns (T.columns table.now) order.now }
     requires one_each { IfSome least.now (λ key. length key ≡ length order.now) }
     ensures { (found : Row) → row_from row (T.rows table.now) ≡ Some found
@@ -69,7 +71,8 @@ fn is_row_less<T: Table>(least: &Option<Listed<Cell>>, order: &Order, table: &T,
 fn is_less(key: &Option<Listed<Cell>>, order: &Order, other: &Option<Listed<Cell>>) -> bool
     requires left { IfSome key.now (λ key. length key ≡ length order.now) }
     requires right { IfSome other.now (λ key. length key ≡ length order.now) }
-    ensures { lesser (compare_keys order.now) key.now other.now ≡ (if result then key.now else other.now) }
+    ensures { lesser (compare_keys order.now) key.now other.now
+        ≡ (if result then key.now else other.now) }
 {
     match (key, other) {
         (Some(key), Some(other)) => order.compare(key.as_slice(), other.as_slice()).is_lt(),

@@ -22,10 +22,13 @@ pub(crate) fn has_match<T: Table>(
     table: &T,
     row: u32,
 ) -> Mem<bool>
-    requires row_there { option_map (λ found. found.number) (row_from row (T.rows table.now)) ≡ Some row }
+    requires row_there { option_map (λ found. found.number) (row_from row (T.rows table.now))
+        ≡ Some row }
     requires cols_there { All (λ col. col < length (T.columns table.now)) cols.now }
-    ensures { (test : TextTest) (found : Row) → IsReadyTest test ready.now → row_from row (T.rows table.now) ≡ Some found
-        → IfOk result (λ yes. yes ≡ list_any (λ col. cell_meets test (cell_at found.cells col)) cols.now) }
+    ensures { (test : TextTest) (found : Row) → IsReadyTest test ready.now
+        → row_from row (T.rows table.now) ≡ Some found
+        → IfOk result (λ yes.
+        yes ≡ list_any (λ col. cell_meets test (cell_at found.cells col)) cols.now) }
 {
     for col in cols {
         if meets(alloc, ready, table.cell(row, *col))? {
@@ -37,7 +40,8 @@ pub(crate) fn has_match<T: Table>(
 
 /// Whether a cell is a text that meets a prepared test.
 fn meets(alloc: Global, ready: &ReadyTest, cell: CellRef<'_>) -> Mem<bool>
-    ensures { (test : TextTest) → IsReadyTest test ready.now → IfOk result (λ yes. yes ≡ cell_meets test (cell_lent cell.entry)) }
+    ensures { (test : TextTest) → IsReadyTest test ready.now
+        → IfOk result (λ yes. yes ≡ cell_meets test (cell_lent cell.entry)) }
 {
     match cell {
         CellRef::Text(text) => ready.meets(alloc, text),

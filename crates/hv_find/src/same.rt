@@ -1,12 +1,11 @@
-//! When two searches are the same.
+//! When two searches are the same. What a hash of one writes is in specs/Hashes.antt.
 
-ghost use Rattle.std.specs.Prelude.{◌≡◌, ◌↔◌, ◌++◌, IsTrue, length};
+ghost use Rattle.std.specs.Prelude.{◌≡◌, ◌↔◌, IsTrue};
 ghost use Rattle.std.specs.Cmp.{partial_equiv_from_equiv};
-ghost use Rattle.std.specs.Hash as fed;
 ghost use Rattle.std.proofs.Common.{ap};
 ghost use Rattle.hv_value.specs.Same.{same_by};
 ghost use Rattle.hv_value.specs.SameLaws.{same_by-decides, same_by-equiv};
-ghost use Rattle.hv_expr.specs.Hashes.{test_writes};
+ghost use Rattle.hv_find.specs.Hashes.{find_writes};
 
 use crate::Find;
 use hv_expr::TextTest;
@@ -44,19 +43,19 @@ impl Eq for Find {
     ghost laws = { same_by-equiv row.the_row.coded };
 }
 
+/// The same views write the same into a hasher.
 impl Hash for Find {
-    ghost use Rattle.std.specs.Prelude.{length, ◌++◌};
-    ghost use Rattle.hv_expr.specs.Hashes.{test_writes};
     ghost use Rattle.hv_find.specs.contracts.find.Find as row;
 
-    ghost hash_input = { λ view. fed.usize (length view.cols) ++ test_writes view.test ++ fed.usize (length view.order) };
+    ghost hash_input = { find_writes };
 
-    ghost respects_eq = { λ x y e. ap (λ view. fed.usize (length view.cols) ++ test_writes view.test ++ fed.usize (length view.order)) ((same_by-decides row.the_row.coded x y).0 e) };
+    ghost respects_eq = { λ x y e. ap find_writes ((same_by-decides row.the_row.coded x y).0 e) };
 
     fn hash<H: Hasher>(&self, state: &mut H) {
-        self.cols.as_slice().len().hash(state);
+        self.cols.as_slice().hash(state);
         self.test.hash(state);
-        self.order.keys().len().hash(state);
+        self.order.keys().hash(state);
+        self.after.hash(state);
     }
 }
 

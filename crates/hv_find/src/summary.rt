@@ -56,7 +56,8 @@ impl FindSummary {
         row: u32,
     ) -> Mem<()>
         requires fit { FitsNext order.now after.now (T.columns table.now) }
-        requires row_there { option_map (λ found. found.number) (row_from row (T.rows table.now)) ≡ Some row }
+        requires row_there { option_map (λ found. found.number) (row_from row (T.rows table.now))
+            ≡ Some row }
         requires one_each { IfSome self.old.first (λ key. length key ≡ length order.now) }
         requires room_above { self.old.above + 1 < 2 ^ 64 }
         requires room_before { self.old.before + 1 < 2 ^ 64 }

@@ -29,8 +29,17 @@ impl Table for TwoRows {
 
     ghost part_number = { λ table. table.part };
 
-    ghost rows = { λ table. record { part = table.part; number = 3; cells = cell.Int table.first.0 ∷ cell.Text table.first.1 ∷ [] }
-        ∷ record { part = table.part; number = 7; cells = cell.Int table.second.0 ∷ cell.Text table.second.1 ∷ [] } ∷ [] };
+    ghost rows = { λ table. record {
+      part = table.part;
+      number = 3;
+      cells = cell.Int table.first.0 ∷ cell.Text table.first.1 ∷ [];
+    }
+        ∷ record {
+          part = table.part;
+          number = 7;
+          cells = cell.Int table.second.0 ∷ cell.Text table.second.1 ∷ [];
+        }
+        ∷ [] };
 
     fn schema(&self) -> &Schema {
         &self.schema

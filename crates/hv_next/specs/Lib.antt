@@ -1,5 +1,6 @@
 pub mod AddKey
 pub mod Fits
+pub mod Hashes
 pub mod KeyOrder
 pub mod KeyPlaces
 pub mod Next

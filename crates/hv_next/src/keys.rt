@@ -13,7 +13,7 @@ ghost use Rattle.hv_next.specs.Next.{is_above};
 use hv_value::{Cell, Kind, Listed, Mem, Order, OrderKey, Schema, Table};
 use std::alloc::Global;
 
-/// Whether each key's column is one of these, and the key above which rows are, if any, has one cell a key, missing or
+/// Whether a schema has the column of each key, and `after`, where there is one, has one cell for each key, missing or
 /// of the kind of that key's column.
 pub fn fits_keys(schema: &Schema, order: &Order, after: &Option<Listed<Cell>>) -> bool
     ensures { IsTrue result ↔ FitsNext order.now after.now schema.now }
@@ -25,7 +25,8 @@ pub fn fits_keys(schema: &Schema, order: &Order, after: &Option<Listed<Cell>>) -
 pub fn is_above<T: Table>(order: &Order, after: &Option<Listed<Cell>>, table: &T, row: u32) -> bool
     requires fit { FitsNext order.now after.now (T.columns table.now) }
     requires row_there { option_map (λ found. found.number) (row_from row (T.rows table.now)) ≡ Some row }
-    ensures { (found : Row) → row_from row (T.rows table.now) ≡ Some found → result ≡ is_above order.now after.now found }
+    ensures { (found : Row) → row_from row (T.rows table.now) ≡ Some found
+        → result ≡ is_above order.now after.now found }
 {
     match after {
         Some(after) => order.compare_row(table, row, after.as_slice()).is_gt(),
@@ -90,7 +91,7 @@ fn are_in_columns(schema: &Schema, keys: &[OrderKey]) -> bool
     true
 }
 
-/// Whether the key above which rows are, if any, is one of these columns.
+/// Whether `after`, where there is one, has one cell for each key, missing or of the kind of that key's column.
 fn after_fits(schema: &Schema, order: &Order, after: &Option<Listed<Cell>>) -> bool
     requires { AreInColumns schema.now order.now }
     ensures { IsTrue result ↔ IsKeyOf schema.now order.now after.now }
@@ -117,7 +118,7 @@ fn are_cells_of(schema: &Schema, keys: &[OrderKey], cells: &[Cell]) -> bool
     true
 }
 
-/// Whether a cell may stand in a key's column.
+/// Whether a cell may stand in a key's column, which is there.
 fn is_cell_of(schema: &Schema, key: &OrderKey, cell: &Cell) -> bool
     requires { key.now.col < length schema.now }
     ensures { result ≡ is_of_column (kind_at schema.now key.now.col) cell.now }
@@ -125,7 +126,7 @@ fn is_cell_of(schema: &Schema, key: &OrderKey, cell: &Cell) -> bool
     is_of_kind(schema.kind(key.col), cell)
 }
 
-/// Whether a cell may stand in a column of the kind.
+/// Whether a cell may stand in a column of the kind: a missing one in any, and a date only of the years 1 to 9999.
 fn is_of_kind(kind: Kind, cell: &Cell) -> bool
     ensures { result ≡ is_of_kind kind cell.now }
 {

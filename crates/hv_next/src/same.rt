@@ -1,15 +1,26 @@
-//! When two views of next rows are the same.
+//! When two views of next rows are the same. What a hash of one writes is in specs/Hashes.antt.
 
-ghost use Rattle.std.specs.Prelude.{◌≡◌, ◌↔◌, ◌++◌, IsTrue, length};
+ghost use Rattle.std.specs.Prelude.{◌≡◌, ◌↔◌, IsTrue};
 ghost use Rattle.std.specs.Cmp.{partial_equiv_from_equiv};
-ghost use Rattle.std.specs.Hash as fed;
 ghost use Rattle.std.proofs.Common.{ap};
 ghost use Rattle.hv_value.specs.Same.{same_by};
 ghost use Rattle.hv_value.specs.SameLaws.{same_by-decides, same_by-equiv};
+ghost use Rattle.hv_next.specs.Hashes.{next_writes};
 
 use crate::NextRows;
 use hv_value::{Cell, Listed, Order};
 use std::hash::{Hash, Hasher};
+
+impl NextRows {
+    /// Whether two views are the same.
+    pub fn same(&self, other: &NextRows) -> bool
+        ensures { IsTrue result ↔ (self.now ≡ other.now) }
+    {
+        self.k == other.k
+            && are_same_orders(&self.order, &other.order)
+            && are_same_keys(&self.after, &other.after)
+    }
+}
 
 /// Two views are equal where they are the same.
 impl PartialEq for NextRows {
@@ -20,17 +31,8 @@ impl PartialEq for NextRows {
     ghost laws = { partial_equiv_from_equiv (same_by-equiv row.the_row.coded) };
 
     fn eq(&self, other: &NextRows) -> bool {
-        are_same(self, other)
+        self.same(other)
     }
-}
-
-fn are_same(a: &NextRows, b: &NextRows) -> bool
-    ensures { IsTrue result ↔ (a.now ≡ b.now) }
-{
-    if a.k != b.k {
-        return false;
-    }
-    are_same_orders(&a.order, &b.order) && are_same_keys(&a.after, &b.after)
 }
 
 /// Whether two orders are the same.
@@ -63,16 +65,17 @@ impl Eq for NextRows {
     ghost laws = { same_by-equiv row.the_row.coded };
 }
 
+/// The same views write the same into a hasher.
 impl Hash for NextRows {
-    ghost use Rattle.std.specs.Prelude.{length, ◌++◌};
     ghost use Rattle.hv_next.specs.contracts.next_rows.NextRows as row;
 
-    ghost hash_input = { λ view. fed.usize (length view.order) ++ fed.u32 view.k };
+    ghost hash_input = { next_writes };
 
-    ghost respects_eq = { λ x y e. ap (λ view. fed.usize (length view.order) ++ fed.u32 view.k) ((same_by-decides row.the_row.coded x y).0 e) };
+    ghost respects_eq = { λ x y e. ap next_writes ((same_by-decides row.the_row.coded x y).0 e) };
 
     fn hash<H: Hasher>(&self, state: &mut H) {
-        self.order.keys().len().hash(state);
+        self.order.keys().hash(state);
+        self.after.hash(state);
         self.k.hash(state);
     }
 }

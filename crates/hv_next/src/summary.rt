@@ -74,7 +74,8 @@ impl CountedKeys {
     pub(crate) fn count_one(&mut self, place: usize)
         requires within { place < length self.old }
         requires room { All (λ row. row.count + 1 < 2 ^ 64) self.old }
-        ensures { (row : NextRow) → row.count ≡ 1 → self.new ≡ slice_set self.old place (added row (get_or self.old place row)) }
+        ensures { (row : NextRow) → row.count ≡ 1
+            → self.new ≡ slice_set self.old place (added row (get_or self.old place row)) }
     {
         self.rows[place].count += 1;
     }

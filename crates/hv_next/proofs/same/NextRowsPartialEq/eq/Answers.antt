@@ -4,4 +4,4 @@ use Rattle.hv_next.proofs.same.NextRowsPartialEq.eq.Goals as goal
 
 -- an answer that decides sameness is the test's
 pub returns : goal.returns
-returns c = same_by-is row.the_row.coded c.are_same.result c.args.self.now c.args.other.now c.are_same.ensures
+returns c = same_by-is row.the_row.coded c.same.result c.args.self.now c.args.other.now c.same.ensures
