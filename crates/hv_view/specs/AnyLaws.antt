@@ -1,6 +1,8 @@
 -- The laws of any view, by those of its variants.
 use Rattle.std.proofs.Common.{ℕ, List, ◌++◌, ◌∙◌}
 use Rattle.hv_value.specs.Rows.{Row}
+use Rattle.hv_find.specs.FindLaws.{IsFound-swap}
+use Rattle.hv_next.specs.NextLaws.{IsNext-swap}
 use Rattle.hv_range.specs.DistinctLaws.{distinct_of-swap}
 use Rattle.hv_range.specs.RangeLaws.{IsRange-swap}
 use Rattle.hv_bucket.specs.Places.{buckets_len}
@@ -32,4 +34,6 @@ StandsForAny-swap (view.Stacked stacked) a b c (summary.Stacked s) h = IsTally-s
 StandsForAny-swap (view.HeatMap heat) a b c (summary.HeatMap s) h = IsTally-swap _ _ a b c s h
 StandsForAny-swap (view.TrellisHistogram trellis) a b c (summary.TrellisHistogram s) h = groups-swap trellis.groups _ _ a b c s h
 StandsForAny-swap (view.TrellisHeatMap trellis) a b c (summary.TrellisHeatMap s) h = groups-swap trellis.groups _ _ a b c s h
+StandsForAny-swap (view.NextRows next) a b c (summary.NextRows s) h = IsNext-swap next.order next.after next.k a b c s h
+StandsForAny-swap (view.Find find) a b c (summary.Find s) h = IsFound-swap find a b c s h
 StandsForAny-swap _ a b c _ h = h

@@ -2,12 +2,14 @@
 use Rattle.std.specs.Prelude.{ℕ, List, ◌++◌}
 use Rattle.std.specs.Hash as fed
 use Rattle.hv_bucket.specs.Hashes.{axis_writes}
+use Rattle.hv_find.specs.Hashes.{find_writes}
+use Rattle.hv_next.specs.Hashes.{next_writes}
 use Rattle.hv_view.specs.declared.any_view.AnyView.{AnyView}
 use Rattle.hv_view.specs.declared.any_view.AnyView.TheVariants as view
 use Rattle.hv_view.specs.declared.plan.Plan.{Plan}
 use Rattle.hv_view.specs.declared.plan.Plan.TheVariants as plan
 
--- the place of the view's variant, and then what it holds: columns, numbers of values, axes
+-- the place of the view's variant, and then what it holds: columns, numbers of values, axes, orders, keys, tests
 abbrev pub view_writes : AnyView → List (List ℕ)
 view_writes (view.Range range) = fed.u8 0 ++ fed.u32 range.col
 view_writes (view.Distinct distinct) = fed.u8 1 ++ fed.u32 distinct.col ++ fed.u32 distinct.k
@@ -17,6 +19,8 @@ view_writes (view.Stacked stacked) = fed.u8 4 ++ axis_writes stacked.x ++ axis_w
 view_writes (view.HeatMap heat) = fed.u8 5 ++ axis_writes heat.x ++ axis_writes heat.y
 view_writes (view.TrellisHistogram trellis) = fed.u8 6 ++ axis_writes trellis.groups.0 ++ axis_writes trellis.inner.axis
 view_writes (view.TrellisHeatMap trellis) = fed.u8 7 ++ axis_writes trellis.groups.0 ++ axis_writes trellis.inner.x ++ axis_writes trellis.inner.y
+view_writes (view.NextRows next) = fed.u8 8 ++ next_writes next
+view_writes (view.Find find) = fed.u8 9 ++ find_writes find
 
 -- the place of the plan's variant, and then what its view writes
 abbrev pub plan_writes : Plan → List (List ℕ)

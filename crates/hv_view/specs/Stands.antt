@@ -3,11 +3,15 @@ use Rattle.std.specs.Prelude.{◌≡◌, ◌<◌, ⊤, true, ℕ, List, length}
 use Rattle.hv_value.specs.Rows.{Row}
 use Rattle.hv_value.specs.Schema.{Columns}
 use Rattle.hv_bucket.specs.Places.{buckets_len, fits_axis}
+use Rattle.hv_find.specs.Find.{IsFound}
+use Rattle.hv_find.specs.Fits.{FitsFind}
 use Rattle.hv_grid.specs.declared.by_axis.ByAxis.{ByAxis}
 use Rattle.hv_grid.specs.declared.heat_map.HeatMap.{HeatMap}
 use Rattle.hv_grid.specs.Grids.{bucket_in}
 use Rattle.hv_grid.specs.Slots.{IsHeatMapCounted, IsStackedCounted}
 use Rattle.hv_hist.specs.Slots.{IsCounted}
+use Rattle.hv_next.specs.Fits.{FitsNext}
+use Rattle.hv_next.specs.Next.{IsNext}
 use Rattle.hv_sketch.specs.Columns.{IsColumnOf}
 use Rattle.hv_sketch.specs.Groups.{StandForGroups}
 use Rattle.hv_range.specs.Distinct.{distinct_of}
@@ -17,7 +21,7 @@ use Rattle.hv_view.specs.declared.any_view.AnyView.TheVariants as view
 use Rattle.hv_view.specs.declared.any_summary.AnySummary.{AnySummary}
 use Rattle.hv_view.specs.declared.any_summary.AnySummary.TheVariants as summary
 
--- the columns of both axes are there
+-- the columns of both axes are there, each of the kind that its buckets take
 abbrev pub FitsHeatMap : Columns → HeatMap → Type 0
 FitsHeatMap columns heat = (fits_axis columns heat.x ≡ true) × (fits_axis columns heat.y ≡ true)
 
@@ -31,6 +35,8 @@ FitsAny (view.Stacked stacked) columns = (fits_axis columns stacked.x ≡ true) 
 FitsAny (view.HeatMap heat) columns = FitsHeatMap columns heat
 FitsAny (view.TrellisHistogram trellis) columns = (fits_axis columns trellis.groups.0 ≡ true) × (fits_axis columns trellis.inner.axis ≡ true)
 FitsAny (view.TrellisHeatMap trellis) columns = (fits_axis columns trellis.groups.0 ≡ true) × FitsHeatMap columns trellis.inner
+FitsAny (view.NextRows next) columns = FitsNext next.order next.after columns
+FitsAny (view.Find find) columns = FitsFind find columns
 
 -- merging the view's summaries takes no memory
 abbrev pub MergesAlways : AnyView → Type 0
@@ -42,6 +48,8 @@ MergesAlways (view.Stacked stacked) = ⊤
 MergesAlways (view.HeatMap heat) = ⊤
 MergesAlways (view.TrellisHistogram trellis) = ⊥
 MergesAlways (view.TrellisHeatMap trellis) = ⊥
+MergesAlways (view.NextRows next) = ⊥
+MergesAlways (view.Find find) = ⊥
 
 -- the summaries stand for the rows of the groups of an axis, and the rest is how many rows are in none
 abbrev pub ForEachGroup : {S : Type 0} → ByAxis → (List Row → S → Type 0) → List Row → List S × ℕ → Type 0
@@ -57,4 +65,6 @@ StandsForAny (view.Stacked stacked) rows (summary.Stacked s) = IsStackedCounted 
 StandsForAny (view.HeatMap heat) rows (summary.HeatMap s) = IsHeatMapCounted heat.x heat.y rows s
 StandsForAny (view.TrellisHistogram trellis) rows (summary.TrellisHistogram s) = ForEachGroup trellis.groups (IsCounted trellis.inner.axis) rows s
 StandsForAny (view.TrellisHeatMap trellis) rows (summary.TrellisHeatMap s) = ForEachGroup trellis.groups (IsHeatMapCounted trellis.inner.x trellis.inner.y) rows s
+StandsForAny (view.NextRows next) rows (summary.NextRows s) = IsNext next.order next.after next.k rows s
+StandsForAny (view.Find find) rows (summary.Find s) = IsFound find rows s
 StandsForAny _ rows _ = ⊥

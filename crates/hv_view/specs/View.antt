@@ -5,10 +5,12 @@ use Rattle.hv_value.specs.Rows.{Row}
 use Rattle.hv_value.specs.declared.cell.Kind.{Kind}
 use Rattle.hv_value.specs.declared.cell.Kind.TheVariants as kind
 use Rattle.hv_bucket.specs.Places.{buckets_len}
+use Rattle.hv_find.specs.Find.{find_of}
 use Rattle.hv_grid.specs.declared.by_axis.ByAxis.{ByAxis}
 use Rattle.hv_grid.specs.Grids.{bucket_in, heat_map_of, stacked_of}
 use Rattle.hv_sketch.specs.Groups.{group_rows, ungrouped}
 use Rattle.hv_hist.specs.Histogram.{cdf_of, histogram_of}
+use Rattle.hv_next.specs.Next.{next_of}
 use Rattle.hv_range.specs.Distinct.{distinct_of}
 use Rattle.hv_range.specs.Range.{range_of}
 use Rattle.hv_range.specs.declared.summary.RangeSummary.{RangeSummary}
@@ -54,3 +56,5 @@ IsView (view.Stacked stacked) rows value = value ≡ shown.Stacked (stacked_of s
 IsView (view.HeatMap heat) rows value = value ≡ shown.HeatMap (heat_map_of heat.x heat.y rows)
 IsView (view.TrellisHistogram trellis) rows value = value ≡ shown.TrellisHistogram (of_each_bucket trellis.groups (histogram_of trellis.inner.axis) rows) (in_no_bucket trellis.groups rows)
 IsView (view.TrellisHeatMap trellis) rows value = value ≡ shown.TrellisHeatMap (of_each_bucket trellis.groups (heat_map_of trellis.inner.x trellis.inner.y) rows) (in_no_bucket trellis.groups rows)
+IsView (view.NextRows next) rows value = value ≡ shown.NextRows (next_of next.order next.after next.k rows)
+IsView (view.Find find) rows value = value ≡ shown.Find (find_of find rows)

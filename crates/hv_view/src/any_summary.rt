@@ -1,5 +1,7 @@
 //! The summary of any view. What one stands for is `StandsForAny` (specs/Stands.antt).
 
+use hv_find::FindSummary;
+use hv_next::NextSummary;
 use hv_range::{DistinctSummary, RangeSummary};
 use hv_sketch::{Counts, GroupedSummary};
 
@@ -18,4 +20,6 @@ pub enum AnySummary {
     HeatMap(Counts),
     TrellisHistogram(GroupedSummary<Counts>),
     TrellisHeatMap(GroupedSummary<Counts>),
+    NextRows(NextSummary),
+    Find(FindSummary),
 }

@@ -8,8 +8,10 @@ ghost use Rattle.hv_value.specs.SameLaws.{same_by-decides, same_by-equiv};
 ghost use Rattle.hv_view.specs.Keys.{view_writes};
 
 use crate::AnySummary;
+use hv_find::Find;
 use hv_grid::{HeatMap, Stacked, Trellis};
 use hv_hist::{Cdf, Histogram};
+use hv_next::NextRows;
 use hv_range::{Distinct, Range};
 use hv_sketch::{Grouped, Vizketch};
 use hv_value::{Mem, Schema, Table};
@@ -27,6 +29,8 @@ pub enum AnyView {
     HeatMap(HeatMap),
     TrellisHistogram(Trellis<Histogram>),
     TrellisHeatMap(Trellis<HeatMap>),
+    NextRows(NextRows),
+    Find(Find),
 }
 
 impl AnyView {
@@ -49,6 +53,8 @@ impl AnyView {
                 view.groups.copied(alloc)?,
                 view.inner.copied(alloc)?,
             )),
+            AnyView::NextRows(view) => AnyView::NextRows(view.copied(alloc)?),
+            AnyView::Find(view) => AnyView::Find(view.copied(alloc)?),
         })
     }
 
@@ -69,6 +75,8 @@ impl AnyView {
             (AnyView::TrellisHeatMap(view), AnyView::TrellisHeatMap(other)) => {
                 view.groups.same(&other.groups) && view.inner.same(&other.inner)
             }
+            (AnyView::NextRows(view), AnyView::NextRows(other)) => view.same(other),
+            (AnyView::Find(view), AnyView::Find(other)) => view.same(other),
             _ => false,
         }
     }
@@ -141,6 +149,14 @@ impl Hash for AnyView {
                 view.inner.x.hash(state);
                 view.inner.y.hash(state);
             }
+            AnyView::NextRows(view) => {
+                state.write_u8(8);
+                view.hash(state);
+            }
+            AnyView::Find(view) => {
+                state.write_u8(9);
+                view.hash(state);
+            }
         }
     }
 }
@@ -167,6 +183,8 @@ impl Vizketch for AnyView {
             AnyView::HeatMap(view) => view.fits(schema),
             AnyView::TrellisHistogram(view) => view.fits(schema),
             AnyView::TrellisHeatMap(view) => view.fits(schema),
+            AnyView::NextRows(view) => view.fits(schema),
+            AnyView::Find(view) => view.fits(schema),
         }
     }
 
@@ -181,6 +199,8 @@ impl Vizketch for AnyView {
             AnyView::HeatMap(view) => AnySummary::HeatMap(view.zero(alloc)?),
             AnyView::TrellisHistogram(view) => AnySummary::TrellisHistogram(view.zero(alloc)?),
             AnyView::TrellisHeatMap(view) => AnySummary::TrellisHeatMap(view.zero(alloc)?),
+            AnyView::NextRows(view) => AnySummary::NextRows(view.zero(alloc)?),
+            AnyView::Find(view) => AnySummary::Find(view.zero(alloc)?),
         })
     }
 
@@ -199,6 +219,8 @@ impl Vizketch for AnyView {
             AnyView::TrellisHeatMap(view) => AnySummary::TrellisHeatMap(view.summarize(
                 alloc, table,
             )?),
+            AnyView::NextRows(view) => AnySummary::NextRows(view.summarize(alloc, table)?),
+            AnyView::Find(view) => AnySummary::Find(view.summarize(alloc, table)?),
         })
     }
 
@@ -233,6 +255,12 @@ impl Vizketch for AnyView {
                 AnySummary::TrellisHeatMap(acc),
                 AnySummary::TrellisHeatMap(d),
             ) => { view.merge_into(alloc, acc, d) }
+            (AnyView::NextRows(view), AnySummary::NextRows(acc), AnySummary::NextRows(d)) => {
+                view.merge_into(alloc, acc, d)
+            }
+            (AnyView::Find(view), AnySummary::Find(acc), AnySummary::Find(d)) => {
+                view.merge_into(alloc, acc, d)
+            }
             _ => unreachable!(),
         }
     }
@@ -258,7 +286,11 @@ impl Vizketch for AnyView {
                 AnySummary::TrellisHistogram(view.copy(alloc, s)?),
             (AnyView::TrellisHeatMap(view), AnySummary::TrellisHeatMap(s)) =>
                 AnySummary::TrellisHeatMap(view.copy(alloc, s)?),
-            // a summary of another view stands for no rows, and so may what is answered
+            (AnyView::NextRows(view), AnySummary::NextRows(s)) => {
+                AnySummary::NextRows(view.copy(alloc, s)?)
+            }
+            (AnyView::Find(view), AnySummary::Find(s)) => AnySummary::Find(view.copy(alloc, s)?),
+            // a summary of another view stands for nothing, so any summary will do
             _ => return self.zero(alloc),
         })
     }

@@ -7,8 +7,10 @@ ghost use Rattle.hv_view.specs.View.{IsView, sum_shown};
 
 use crate::trellis::values_of_groups;
 use crate::{AnySummary, AnyView};
+use hv_find::FindSummary;
 use hv_grid::{HeatMapShown, StackedShown};
 use hv_hist::{CdfShown, HistogramShown};
+use hv_next::NextSummary;
 use hv_sketch::copied_cells;
 use hv_value::{Cell, Kind, Listed, Mem};
 use std::alloc::Global;
@@ -48,6 +50,10 @@ pub enum Shown {
         groups: Listed<HeatMapShown>,
         rest: u64,
     },
+    /// Of next rows: the first different keys above a key, each with its number of rows, and how many rows aren't above.
+    NextRows(NextSummary),
+    /// Of a search: how many rows that match are above a key, how many aren't, and the least key above.
+    Find(FindSummary),
 }
 
 impl Shown {
@@ -85,12 +91,14 @@ impl Shown {
                 groups: copied_heat_maps(alloc, groups.as_slice())?,
                 rest: *rest,
             },
+            Shown::NextRows(value) => Shown::NextRows(value.copy(alloc)?),
+            Shown::Find(value) => Shown::Find(value.copy(alloc)?),
         })
     }
 }
 
-/// The value of a view over the rows for which a summary of it stands. A summary of another view stands for no rows,
-/// and is shown as no values.
+/// The value of a view over the rows for which a summary of it stands. A summary of another view stands for nothing, and
+/// is shown as no distinct values.
 #[tactic(auto, unfolding(crate::specs::Stands::StandsForAny))]
 pub fn finish(alloc: Global, view: &AnyView, s: &AnySummary) -> Mem<Shown>
     ensures { IfOk result (λ shown. (rows : List Row)
@@ -124,6 +132,8 @@ pub fn finish(alloc: Global, view: &AnyView, s: &AnySummary) -> Mem<Shown>
             groups: values_of_groups(alloc, &view.inner, s.groups())?,
             rest: s.rest(),
         },
+        (AnyView::NextRows(_), AnySummary::NextRows(s)) => Shown::NextRows(s.copy(alloc)?),
+        (AnyView::Find(_), AnySummary::Find(s)) => Shown::Find(s.copy(alloc)?),
         _ => Shown::Distinct {
             more: false,
             values: Listed::new(alloc),

@@ -20,7 +20,8 @@ pub(crate) trait Inner: Vizketch {
 
     /// The value of the rows for which a summary stands.
     fn shown(&self, alloc: Global, s: &Self::Summary) -> Mem<Self::Value>
-        ensures { IfOk result (λ value. (rows : List Row) → Self.stands self.now rows s.now → value ≡ value_of self.now rows) };
+        ensures { IfOk result (λ value. (rows : List Row)
+            → Self.stands self.now rows s.now → value ≡ value_of self.now rows) };
 }
 
 impl Inner for Histogram {
