@@ -11,12 +11,12 @@ use Rattle.serde_json.specs.Find.{as_array, get, get_member}
 use Rattle.hv_expr.specs.declared.expr.Expr.{Expr}
 use Rattle.hv_expr.specs.declared.expr.Expr.TheVariants as expr
 use Rattle.hv_lineage.specs.Lineages.{TermOver}
-use Rattle.hv_message.specs.declared.pred_asked.PredAsked.{PredAsked}
-use Rattle.hv_message.specs.declared.why.Why.{Why}
-use Rattle.hv_message.specs.Fields.{all_read, integer_at, shaped, text_at}
-use Rattle.hv_message.specs.Flaws.{of_field}
+use Rattle.hv_asked.specs.declared.pred_asked.PredAsked.{PredAsked}
+use Rattle.hv_asked.specs.declared.why.Why.{Why}
+use Rattle.hv_asked.specs.Fields.{all_read, integer_at, shaped, text_at}
+use Rattle.hv_asked.specs.Flaws.{of_field}
 use Rattle.hv_message.specs.LineageTexts.{term_in, term_with}
-use Rattle.hv_message.specs.Trees.{expr_in, expr_with, join_in, levels, linear_in, parts_in, pred_in, pred_with, under}
+use Rattle.hv_asked.specs.Trees.{expr_in, expr_with, join_in, levels, linear_in, parts_in, pred_in, pred_with, under}
 
 -- ---- what is in a value nests less than the value
 

@@ -1,7 +1,4 @@
-pub mod AskedFolds
-pub mod AskedNodes
 pub mod TreeLemmas
 pub mod TableLemmas
 pub mod LevelLemmas
-pub mod WordLemmas
-pub mod AxisLemmas
+pub mod RefusalLemmas

@@ -9,7 +9,7 @@ use Rattle.hv_value.specs.declared.catalog.TheConstants.{MAX_PARTITIONS}
 use Rattle.hv_value.specs.Schema.{Columns}
 use Rattle.hv_lineage.specs.Bases.{IsFitBase}
 use Rattle.hv_lineage.specs.declared.base.Base.TheVariants as base
-use Rattle.hv_message.specs.Tables.{are_parts, is_short_part}
+use Rattle.hv_asked.specs.Tables.{are_parts, is_short_part}
 
 all_short : (parts : List (List ℕ)) → list_all is_short_part parts ≡ true → AllByRecursion (λ text. length text < 2 ^ 26) parts
 all_short [] e = tt

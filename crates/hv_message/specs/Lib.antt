@@ -1,9 +1,3 @@
-pub mod Fields
-pub mod Flaws
-pub mod Constants
-pub mod Axes
-pub mod Words
-pub mod Trees
 pub mod Tables
 pub mod Terms
 pub mod Views

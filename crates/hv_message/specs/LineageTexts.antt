@@ -5,14 +5,15 @@ use Rattle.serde_json.specs.Data.{Data}
 use Rattle.serde_json.specs.Find.{get}
 use Rattle.hv_value.specs.Catalog.{Tables}
 use Rattle.hv_lineage.specs.Lineages.{TermOver}
-use Rattle.hv_message.specs.declared.why.Why.{Why}
-use Rattle.hv_message.specs.declared.why.Why.TheVariants as why
-use Rattle.hv_message.specs.Fields.{text_at}
-use Rattle.hv_message.specs.Flaws.{and_then, of_field, within}
+use Rattle.hv_asked.specs.declared.why.Why.{Why}
+use Rattle.hv_asked.specs.declared.why.Why.TheVariants as why
+use Rattle.hv_asked.specs.Fields.{text_at}
+use Rattle.hv_asked.specs.Flaws.{and_then, of_field, within}
 use Rattle.hv_message.specs.Messages.{object_of}
-use Rattle.hv_message.specs.Tables.{fits_table, loaded, table_in}
+use Rattle.hv_asked.specs.Tables.{fits_table, table_in}
+use Rattle.hv_message.specs.Tables.{loaded}
 use Rattle.hv_message.specs.Terms.{derive_of, filter_of, over, project_of}
-use Rattle.hv_message.specs.Trees.{levels}
+use Rattle.hv_asked.specs.Trees.{levels}
 
 -- the lineage of the base, in the form in which a load gives a table
 abbrev pub base_in : Tables → Data → Result TermOver Why

@@ -6,49 +6,26 @@ use Rattle.std.specs.declared.sync.Arc.{Arc}
 use Rattle.hv_expr.specs.Checks.{has_fit_factors, is_fit_factor}
 use Rattle.hv_lineage.specs.Lineages.{TermOver, lineage_columns}
 use Rattle.hv_lineage.specs.declared.error.LineageErr.{LineageErr}
-use Rattle.hv_lineage.specs.declared.error.LineageErr.TheVariants as err
 use Rattle.hv_lineage.specs.declared.lineage.Lineage.{Lineage}
-use Rattle.hv_bucket.specs.declared.buckets.Axis.{Axis}
-use Rattle.hv_bucket.specs.declared.buckets.Buckets.TheVariants as buckets
-use Rattle.hv_message.specs.Axes.{bucket_count}
-use Rattle.hv_message.specs.declared.axes.AxisFound.{AxisFound}
-use Rattle.hv_message.specs.declared.axes.AxisFound.TheVariants.{Numbers, Texts}
 use Rattle.hv_message.specs.declared.message.Message.{Message}
 use Rattle.hv_message.specs.declared.message.Message.TheVariants.{Make, Info, View, Cancel, End}
 use Rattle.hv_message.specs.declared.message.Refusal.{Refusal}
 use Rattle.hv_message.specs.declared.message.Refusal.TheVariants as refusal
 use Rattle.hv_message.specs.declared.message.Refusal.TheVariants.{Malformed}
-use Rattle.hv_message.specs.declared.refused.Refused.{Refused}
-use Rattle.hv_message.specs.declared.refused.Refused.TheVariants.{Word, Memory}
-use Rattle.hv_message.specs.declared.why.Why.{Why}
-use Rattle.hv_message.specs.declared.why.Why.TheVariants as why
+use Rattle.hv_asked.specs.declared.refused.Refused.{Refused}
+use Rattle.hv_asked.specs.declared.refused.Refused.TheVariants.{Word, Memory}
+use Rattle.hv_asked.specs.declared.why.Why.{Why}
+use Rattle.hv_asked.specs.declared.why.Why.TheVariants as why
 use Rattle.hv_value.specs.Schema.{Columns, is_schema}
 use Rattle.hv_message.specs.Messages.{Meaning, makes, tells, views, cancels, ends, Reading, means, malformed, Known, is_open}
 use Rattle.hv_view.specs.Plans.{FitsPlan}
 use Rattle.hv_view.specs.declared.plan.Plan.{Plan}
-use Rattle.hv_message.specs.declared.limits.TheConstants.{MAX_OBJECTS, MAX_OPEN}
+use Rattle.hv_asked.specs.declared.limits.TheConstants.{MAX_OBJECTS, MAX_OPEN}
 use Rattle.hv_message.specs.declared.asked.Asked.{Asked}
 use Rattle.hv_message.specs.declared.asked.Asked.TheVariants as asked
 use Rattle.hv_message.specs.declared.asked.TermAsked.{TermAsked}
 use Rattle.hv_message.specs.declared.asked.TermAsked.TheVariants.{Filter, Project, Derive}
 use Rattle.hv_message.specs.Terms.{refusal_word}
-
--- what is read is wanted, or want of memory
-abbrev pub Tells : {A : Type 0} → Result A Refused → Result A Why → Type 0
-Tells (Ok x) wanted = wanted ≡ Ok x
-Tells (Err (Word word)) wanted = wanted ≡ Err word
-Tells (Err Memory) wanted = Unit {0}
-
--- what has to be there
-abbrev pub needed : {A : Type 0} → Option A → Result A Refused
-needed None = Err (Word why.Field)
-needed (Some x) = Ok x
-
--- a field that has to be there is read, or want of memory
-abbrev pub IsField : {A : Type 0} → Result A Refused → Option A → Type 0
-IsField (Ok x) found = found ≡ Some x
-IsField (Err (Word word)) found = (found ≡ None) × (word ≡ why.Field)
-IsField (Err Memory) found = Unit {0}
 
 -- an expression's factors and summands, and the number of a request that is to end, have at most 64 bits
 abbrev pub HasFitFactors : TermAsked → Type 0
@@ -85,11 +62,6 @@ CanServe known (View id of plan) = CanOpen known id (arc_value of) plan
 CanServe known (Cancel id request) = is_open request known.requests ≡ true
 CanServe known (End id) = Unit {0}
 
--- the axis that the code found, whether there are such buckets or not
-abbrev pub axis_found : AxisFound → Axis
-axis_found (Numbers col lo hi n) = record { col = col; buckets = buckets.Int (record { lo = lo; hi = hi; n = bucket_count n }) }
-axis_found (Texts col bounds) = record { col = col; buckets = buckets.Text bounds }
-
 -- the id of a message
 abbrev pub id_of : Message → ℕ
 id_of (Make id made) = id
@@ -122,10 +94,14 @@ IsRead (Ok made) told = told ≡ Ok (arc_value made)
 IsRead (Err (Malformed why id)) told = (told ≡ Err why) × (id ≡ None)
 IsRead (Err (refusal.Memory id)) told = id ≡ None
 
+-- a word, or want of memory where there is none
+abbrev pub word_or_memory : Option Why → Refused
+word_or_memory None = Memory
+word_or_memory (Some word) = Word word
+
 -- why a lineage was refused
 abbrev pub refused_of : LineageErr → Refused
-refused_of err.Memory = Memory
-refused_of e = Word (refusal_word e)
+refused_of e = word_or_memory (refusal_word e)
 
 -- a schema is made of columns exactly where they make one
 abbrev pub IsSchemaOf : Result Columns Refused → Columns → Type 0

@@ -11,12 +11,13 @@ use Rattle.hv_view.specs.declared.plan.Plan.{Plan}
 use Rattle.hv_message.specs.declared.asked.Asked.{Asked}
 use Rattle.hv_message.specs.declared.asked.Asked.TheVariants.{Load, Over, Info, View, Cancel, End}
 use Rattle.hv_message.specs.declared.asked.TermAsked.{TermAsked}
-use Rattle.hv_message.specs.declared.limits.TheConstants.{MAX_ID, MAX_MESSAGE_BYTES, MAX_OBJECTS, MAX_OPEN}
-use Rattle.hv_message.specs.declared.why.Why.{Why}
-use Rattle.hv_message.specs.declared.why.Why.TheVariants as why
-use Rattle.hv_message.specs.Fields.{integer_at, text_at}
-use Rattle.hv_message.specs.Flaws.{map_ok, and_then, of_field, within}
-use Rattle.hv_message.specs.Tables.{fits_table, loaded, table_in}
+use Rattle.hv_asked.specs.declared.limits.TheConstants.{MAX_ID, MAX_MESSAGE_BYTES, MAX_OBJECTS, MAX_OPEN}
+use Rattle.hv_asked.specs.declared.why.Why.{Why}
+use Rattle.hv_asked.specs.declared.why.Why.TheVariants as why
+use Rattle.hv_asked.specs.Fields.{integer_at, text_at}
+use Rattle.hv_asked.specs.Flaws.{map_ok, and_then, of_field, within}
+use Rattle.hv_asked.specs.Tables.{fits_table, table_in}
+use Rattle.hv_message.specs.Tables.{loaded}
 use Rattle.hv_message.specs.Terms.{applied, derive_of, filter_of, fits_term, project_of}
 use Rattle.hv_message.specs.Views.{fits_view, planned, view_in}
 

@@ -1,16 +1,16 @@
 -- What a message or a term of a lineage's text puts over a lineage: what it asks for, and what it means.
-use Rattle.std.specs.Prelude.{Bool, true, Option, Some, None, Result, Ok, Err, codes}
+use Rattle.std.specs.Prelude.{Bool, true, Option, Some, None, option_and_then, Result, Ok, Err, codes}
 use Rattle.serde_json.specs.Data.{Data}
 use Rattle.hv_lineage.specs.Lineages.{TermOver, lineage_columns, filtered, projected, derived, filter_refusal, project_refusal, derive_refusal}
 use Rattle.hv_lineage.specs.declared.error.LineageErr.{LineageErr}
 use Rattle.hv_lineage.specs.declared.error.LineageErr.TheVariants as err
 use Rattle.hv_message.specs.declared.asked.TermAsked.{TermAsked}
 use Rattle.hv_message.specs.declared.asked.TermAsked.TheVariants.{Filter, Project, Derive}
-use Rattle.hv_message.specs.declared.why.Why.{Why}
-use Rattle.hv_message.specs.declared.why.Why.TheVariants as why
-use Rattle.hv_message.specs.Fields.{text_at, texts_at}
-use Rattle.hv_message.specs.Flaws.{and_then, of_field, within}
-use Rattle.hv_message.specs.Trees.{dated_pred, expr_in, fits_expr, fits_pred, levels, pred_in, under}
+use Rattle.hv_asked.specs.declared.why.Why.{Why}
+use Rattle.hv_asked.specs.declared.why.Why.TheVariants as why
+use Rattle.hv_asked.specs.Fields.{text_at, texts_at}
+use Rattle.hv_asked.specs.Flaws.{and_then, of_field, within}
+use Rattle.hv_asked.specs.Trees.{dated_pred, expr_in, fits_expr, fits_pred, levels, pred_in, under}
 
 -- ---- what is asked for
 
@@ -32,22 +32,26 @@ fits_term (Derive name e) = fits_expr e
 
 -- ---- what it means
 
--- the word of a lineage's refusal; want of memory is none
-abbrev pub refusal_word : LineageErr → Why
-refusal_word err.NoColumn = why.Column
-refusal_word err.WrongKind = why.Kind
-refusal_word err.TooDeep = why.Deep
-refusal_word err.BadSchema = why.Schema
-refusal_word err.NotSameBase = why.Base
-refusal_word err.NameClash = why.Clash
-refusal_word err.SchemaDiffers = why.Differs
-refusal_word err.Deep = why.Depth
-refusal_word err.Memory = why.Full
+-- the word of a lineage's refusal; want of memory has none
+abbrev pub refusal_word : LineageErr → Option Why
+refusal_word err.NoColumn = Some why.Column
+refusal_word err.WrongKind = Some why.Kind
+refusal_word err.TooDeep = Some why.Deep
+refusal_word err.BadSchema = Some why.Schema
+refusal_word err.NotSameBase = Some why.Base
+refusal_word err.NameClash = Some why.Clash
+refusal_word err.SchemaDiffers = Some why.Differs
+refusal_word err.Deep = Some why.Depth
+refusal_word err.Memory = None
 
--- a lineage, unless it is refused
+-- a lineage, unless there is a word against it
+abbrev pub unless_word : Option Why → TermOver → Result TermOver Why
+unless_word None lineage = Ok lineage
+unless_word (Some word) lineage = Err word
+
+-- a lineage, unless it is refused: each refusal of a term has a word (the law `refusals_have_words`)
 abbrev pub unless_refused : Option LineageErr → TermOver → Result TermOver Why
-unless_refused None lineage = Ok lineage
-unless_refused (Some e) lineage = Err (refusal_word e)
+unless_refused refusal = unless_word (option_and_then refusal_word refusal)
 
 -- a lineage with what is put over it
 abbrev pub applied : TermAsked → TermOver → Result TermOver Why

@@ -1,23 +1,32 @@
 -- Views that a message asks for: what is asked for, its limits, and what it means over columns.
-use Rattle.std.specs.Prelude.{ℕ, ◌*◌, pos, unsigned_abs, int_le, nat_le, List, Bool, true, ◌&&◌, if◌then◌else◌, Option, None, option_map, option_and_then, Result, bytes_eq, codes}
+use Rattle.std.specs.Prelude.{ℕ, ◌*◌, ℤ, pos, unsigned_abs, int_le, nat_le, List, length, Bool, true, ◌&&◌, if◌then◌else◌, Option, None, option_map, option_and_then, Result, Ok, Err, bytes_eq, codes}
 use Rattle.serde_json.specs.Data.{Data}
 use Rattle.serde_json.specs.Find.{get}
+use Rattle.hv_value.specs.declared.cell.Cell.{Cell}
 use Rattle.hv_value.specs.declared.cell.Kind.{Kind}
+use Rattle.hv_value.specs.declared.cell.Kind.TheVariants as kind
+use Rattle.hv_value.specs.declared.orders.OrderKey.{OrderKey}
 use Rattle.hv_value.specs.Schema.{Columns}
 use Rattle.hv_bucket.specs.declared.buckets.Axis.{Axis}
+use Rattle.hv_expr.specs.declared.text_test.TextTest.{TextTest}
 use Rattle.hv_view.specs.declared.any_view.AnyView.TheVariants as any
 use Rattle.hv_view.specs.declared.plan.Plan.{Plan}
 use Rattle.hv_view.specs.declared.plan.Plan.TheVariants.{One}
 use Rattle.hv_message.specs.declared.asked.ViewAsked.{ViewAsked}
-use Rattle.hv_message.specs.declared.asked.ViewAsked.TheVariants.{Range, Distinct, Histogram, Cdf, Stacked, HeatMap, Trellis}
-use Rattle.hv_message.specs.declared.asked.AxisAsked.{AxisAsked}
+use Rattle.hv_message.specs.declared.asked.ViewAsked.TheVariants.{Range, Distinct, Histogram, Cdf, Stacked, HeatMap, Trellis, Next, Find}
+use Rattle.hv_asked.specs.declared.asked.AxisAsked.{AxisAsked}
 use Rattle.hv_message.specs.declared.asked.InnerAsked.{InnerAsked}
 use Rattle.hv_message.specs.declared.asked.InnerAsked.TheVariants as inner
-use Rattle.hv_message.specs.declared.why.Why.{Why}
-use Rattle.hv_message.specs.Axes.{are_few, axes_in, axis_in, buckets_asked, column_named, do_fit, fits_asked, one_axis, two_axes, three_axes}
-use Rattle.hv_message.specs.Flaws.{map_ok}
-use Rattle.hv_message.specs.Fields.{integer_at, text_at}
-use Rattle.hv_message.specs.declared.limits.TheConstants.{MAX_DISTINCT, MAX_GROUPS}
+use Rattle.hv_asked.specs.declared.orders.OrderAsked.{OrderAsked}
+use Rattle.hv_asked.specs.declared.why.Why.{Why}
+use Rattle.hv_asked.specs.declared.why.Why.TheVariants as why
+use Rattle.hv_asked.specs.Axes.{are_few, axes_in, axis_in, buckets_asked, column_named, do_fit, fits_asked, one_axis, two_axes, three_axes}
+use Rattle.hv_asked.specs.Constants.{is_short}
+use Rattle.hv_asked.specs.Flaws.{all_meant, and_then, map_ok}
+use Rattle.hv_asked.specs.Fields.{integer_at, text_at, texts_at}
+use Rattle.hv_asked.specs.Orders.{fits_order, order_in, order_over}
+use Rattle.hv_asked.specs.Trees.{test_in, under}
+use Rattle.hv_asked.specs.declared.limits.TheConstants.{MAX_DISTINCT, MAX_FIND_COLUMNS, MAX_GROUPS, MAX_NEXT}
 
 -- ---- what a view asks for
 
@@ -43,6 +52,14 @@ inner_with value word =
 abbrev pub inner_of : Data → Option InnerAsked
 inner_of value = option_and_then (inner_with value) (text_at (codes "kind") value)
 
+-- next rows: the order, the key in it, and how many of them
+abbrev pub next_of : Data → Option ViewAsked
+next_of value = option_and_then (λ order. option_map (Next order) (integer_at (codes "k") value)) (order_in value)
+
+-- a search: the columns, the test, the order and the key in it
+abbrev pub find_of : Data → Option ViewAsked
+find_of value = option_and_then (λ cols. option_and_then (λ test. option_map (Find cols test) (order_in value)) (under test_in (codes "test") value)) (texts_at (codes "cols") value)
+
 abbrev pub trellis_of : Data → Option ViewAsked
 trellis_of value = option_and_then (λ by. option_map (Trellis by) (option_and_then inner_of (get (codes "view") value))) (axis_in (codes "by") value)
 
@@ -56,6 +73,8 @@ view_with value word =
     else if bytes_eq word (codes "stacked") then stacked_of value
     else if bytes_eq word (codes "heatmap") then heat_map_of value
     else if bytes_eq word (codes "trellis") then trellis_of value
+    else if bytes_eq word (codes "next") then next_of value
+    else if bytes_eq word (codes "find") then find_of value
     else None
 
 abbrev pub view_of : Data → Option ViewAsked
@@ -64,7 +83,7 @@ view_of value = option_and_then (view_with value) (text_at (codes "kind") value)
 abbrev pub view_in : Data → Option ViewAsked
 view_in value = option_and_then view_of (get (codes "view") value)
 
--- ---- its limits: 1 to 500 different values, and those of its axes
+-- ---- its limits: 1 to 500 different values or keys, 1 to 64 columns of a search, and those of its axes, its order and its test
 
 -- what is taken of each group's rows has its own limits, wherever it is taken
 abbrev pub fits_inner : InnerAsked → Bool
@@ -80,14 +99,24 @@ counts_asked (inner.HeatMap x y) = buckets_asked x * buckets_asked y
 abbrev pub fits_trellis : AxisAsked → InnerAsked → Bool
 fits_trellis by inner = fits_asked by && fits_inner inner && nat_le (buckets_asked by) MAX_GROUPS && are_few (buckets_asked by * counts_asked inner)
 
+-- whether a whole number is one from 1 to the most
+abbrev pub is_from_one : ℕ → ℤ → Bool
+is_from_one most k = int_le (pos 1) k && int_le k (pos most)
+
+-- whether a search is within its limits
+abbrev pub fits_find : List (List ℕ) → TextTest → OrderAsked → Bool
+fits_find cols test order = nat_le 1 (length cols) && nat_le (length cols) MAX_FIND_COLUMNS && is_short test.text && fits_order order
+
 abbrev pub fits_view : ViewAsked → Bool
 fits_view (Range col) = true
-fits_view (Distinct col k) = int_le (pos 1) k && int_le k (pos MAX_DISTINCT)
+fits_view (Distinct col k) = is_from_one MAX_DISTINCT k
 fits_view (Histogram axis) = fits_asked axis
 fits_view (Cdf axis) = fits_asked axis
 fits_view (Stacked x y) = do_fit x y
 fits_view (HeatMap x y) = do_fit x y
 fits_view (Trellis by inner) = fits_trellis by inner
+fits_view (Next order k) = fits_order order && is_from_one MAX_NEXT k
+fits_view (Find cols test order) = fits_find cols test order
 
 -- ---- what it means
 
@@ -98,6 +127,23 @@ trellis_over columns by (inner.Histogram x) = map_ok (λ (both : Axis × Axis).
 trellis_over columns by (inner.HeatMap x y) = map_ok (λ (all : Axis × (Axis × Axis)).
     One (any.TrellisHeatMap (record { groups = record { 0 = all.0 }; inner = record { x = all.1.0; y = all.1.1 } }))) (three_axes columns by x y)
 
+-- where a column is, which has to be one of texts
+abbrev pub of_texts : ℕ × Kind → Result ℕ Why
+of_texts (col, kind.Int) = Err why.Kind
+of_texts (col, kind.Date) = Err why.Kind
+of_texts (col, kind.Text) = Ok col
+
+-- where the column of texts with a name is
+abbrev pub text_named : Columns → List ℕ → Result ℕ Why
+text_named columns name = and_then of_texts (column_named columns name)
+
+-- the plan of next rows and of a search, over an order and the key in it
+abbrev pub next_plan : ℤ → List OrderKey × Option (List Cell) → Plan
+next_plan k found = One (any.NextRows (record { order = found.0; after = found.1; k = unsigned_abs k }))
+
+abbrev pub find_plan : List ℕ → TextTest → List OrderKey × Option (List Cell) → Plan
+find_plan cols test found = One (any.Find (record { cols = cols; test = test; order = found.0; after = found.1 }))
+
 -- the plan of its value over columns
 abbrev pub planned : Columns → ViewAsked → Result Plan Why
 planned columns (Range name) = map_ok (λ (column : ℕ × Kind). One (any.Range (record { col = column.0; kind = column.1 }))) (column_named columns name)
@@ -107,3 +153,5 @@ planned columns (Cdf x) = map_ok (λ x. One (any.Cdf (record { histogram = recor
 planned columns (Stacked x y) = map_ok (λ (both : Axis × Axis). One (any.Stacked (record { x = both.0; y = both.1 }))) (two_axes columns x y)
 planned columns (HeatMap x y) = map_ok (λ (both : Axis × Axis). One (any.HeatMap (record { x = both.0; y = both.1 }))) (two_axes columns x y)
 planned columns (Trellis by inner) = trellis_over columns by inner
+planned columns (Next order k) = map_ok (next_plan k) (order_over columns order)
+planned columns (Find names test order) = and_then (λ cols. map_ok (find_plan cols test) (order_over columns order)) (all_meant (text_named columns) names)

@@ -4,11 +4,10 @@ ghost use Rattle.std.specs.Prelude.{◌≡◌, ◌≤◌, true};
 ghost use Rattle.hv_lineage.specs.declared.base.Base.TheVariants as base;
 ghost use Rattle.hv_value.specs.declared.catalog.TheConstants.{MAX_PARTITIONS};
 ghost use Rattle.hv_message.specs.Meant.{IsMade, IsSchemaOf};
+ghost use Rattle.hv_asked.specs.Tables.{are_parts, fits_table};
 ghost use Rattle.hv_message.specs.Tables as given;
 
-use crate::Why;
-use crate::asked::TableAsked;
-use crate::refused::Refused;
+use hv_asked::{Refused, TableAsked, Why};
 use hv_lineage::{Base, Lineage};
 use hv_value::{Catalog, Kind, Listed, Schema, SchemaErr, Text};
 use sqlite_items::Items;
@@ -36,7 +35,7 @@ fn inline_over(
     columns: Listed<(Text, Kind)>,
     parts: Listed<Text>,
 ) -> Result<Arc<Lineage>, Refused>
-    requires { given.are_parts parts ≡ true }
+    requires { are_parts parts ≡ true }
     ensures { IsMade result (given.over columns (base.Inline columns parts)) }
 {
     let schema = schema_of(columns)?;
@@ -68,7 +67,7 @@ pub(crate) fn loaded(
     catalog: &Catalog,
     asked: TableAsked,
 ) -> Result<Arc<Lineage>, Refused>
-    requires { given.fits_table asked ≡ true }
+    requires { fits_table asked ≡ true }
     ensures { IsMade result (given.loaded catalog.now asked) }
 {
     match asked {

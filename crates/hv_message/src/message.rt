@@ -1,6 +1,6 @@
 //! Messages and why a text is none.
 
-use crate::Why;
+use hv_asked::Why;
 use hv_lineage::Lineage;
 use hv_view::Plan;
 use std::sync::Arc;

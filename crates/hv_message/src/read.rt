@@ -5,10 +5,10 @@ ghost use Rattle.serde_json.specs.View.{view};
 ghost use Rattle.hv_message.specs.Meant.{IsAnswer, IsReading};
 ghost use Rattle.hv_message.specs.Messages as means;
 
-use crate::fields::text_at;
 use crate::operations::operation;
-use crate::refused::Refused;
-use crate::{MAX_ID, MAX_MESSAGE_BYTES, Message, Refusal, TalkState, Why};
+use crate::{Message, Refusal, TalkState};
+use hv_asked::fields::text_at;
+use hv_asked::{MAX_ID, MAX_MESSAGE_BYTES, Refused, Why};
 use serde_json::Value;
 use std::alloc::Global;
 

@@ -4,7 +4,7 @@ ghost use Rattle.std.specs.Prelude.{◌≡◌, ◌<◌, ◌∷◌, ◌++◌, [],
 ghost use Rattle.std.specs.Arc.{arc_value};
 ghost use Rattle.hv_message.specs.Messages.{closed, is_open, object_at};
 
-use crate::{MAX_OBJECTS, MAX_OPEN};
+use hv_asked::{MAX_OBJECTS, MAX_OPEN};
 use hv_lineage::Lineage;
 use hv_value::{Catalog, Mem};
 use std::alloc::Global;

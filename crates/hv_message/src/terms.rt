@@ -6,18 +6,18 @@ ghost use Rattle.std.specs.Arc.{arc_value};
 ghost use Rattle.serde_json.specs.View.{view};
 ghost use Rattle.hv_expr.specs.Checks.{has_fit_factors};
 ghost use Rattle.hv_lineage.specs.Lineages.{derive_refusal, derived, filter_refusal, filtered, project_refusal, projected};
-ghost use Rattle.hv_message.specs.Flaws.{and_then, within};
-ghost use Rattle.hv_message.specs.Meant.{HasFitFactors, IsMade, Tells};
+ghost use Rattle.hv_asked.specs.Flaws.{and_then, within};
+ghost use Rattle.hv_asked.specs.Meant.{Tells};
+ghost use Rattle.hv_message.specs.Meant.{HasFitFactors, IsMade, refused_of};
 ghost use Rattle.hv_message.specs.Terms as term;
 
 use crate::asked::TermAsked;
-use crate::exprs::expr_in;
-use crate::fields::{field, name, names};
-use crate::preds::pred_in;
-use crate::refused::Refused;
-use crate::{LEVELS, Why};
+use hv_asked::exprs::expr_in;
+use hv_asked::fields::{field, name, names};
+use hv_asked::preds::pred_in;
+use hv_asked::{LEVELS, Refused, Why};
 use hv_expr::{Expr, Pred};
-use hv_lineage::Lineage;
+use hv_lineage::{Lineage, LineageErr};
 use hv_value::{Listed, Text};
 use serde_json::Value;
 use std::alloc::Global;
@@ -92,7 +92,7 @@ fn filtered(alloc: Global, lineage: &Arc<Lineage>, pred: Pred) -> Result<Arc<Lin
         (term.unless_refused (filter_refusal (arc_value lineage.now) pred)
         (filtered (arc_value lineage.now) pred)) }
 {
-    Ok(Lineage::filter(alloc, lineage, pred)?)
+    Lineage::filter(alloc, lineage, pred).map_err(refused_of)
 }
 
 fn projected(
@@ -104,7 +104,7 @@ fn projected(
         (term.unless_refused (project_refusal (arc_value lineage.now) cols)
         (projected (arc_value lineage.now) cols)) }
 {
-    Ok(Lineage::project(alloc, lineage, cols.into_vec())?)
+    Lineage::project(alloc, lineage, cols.into_vec()).map_err(refused_of)
 }
 
 fn derived(
@@ -118,5 +118,22 @@ fn derived(
         (term.unless_refused (derive_refusal (arc_value lineage.now) name expr)
         (derived (arc_value lineage.now) name expr)) }
 {
-    Ok(Lineage::derive(alloc, lineage, name, expr)?)
+    Lineage::derive(alloc, lineage, name, expr).map_err(refused_of)
+}
+
+/// Why a lineage was refused.
+fn refused_of(error: LineageErr) -> Refused
+    ensures { result ≡ refused_of error }
+{
+    match error {
+        LineageErr::NoColumn => Refused::Word(Why::Column),
+        LineageErr::WrongKind => Refused::Word(Why::Kind),
+        LineageErr::TooDeep => Refused::Word(Why::Deep),
+        LineageErr::BadSchema => Refused::Word(Why::Schema),
+        LineageErr::NotSameBase => Refused::Word(Why::Base),
+        LineageErr::NameClash => Refused::Word(Why::Clash),
+        LineageErr::SchemaDiffers => Refused::Word(Why::Differs),
+        LineageErr::Deep => Refused::Word(Why::Depth),
+        LineageErr::Memory => Refused::Memory,
+    }
 }

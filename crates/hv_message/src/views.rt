@@ -1,21 +1,31 @@
 //! Views that a message asks for. What each means is said in specs/Views.antt.
 
-ghost use Rattle.std.specs.Prelude.{◌≡◌, true, IfOk};
+ghost use Rattle.std.specs.Prelude.{◌≡◌, pos, true, IfOk};
+ghost use Rattle.std.specs.List.{All};
 ghost use Rattle.serde_json.specs.View.{view};
+ghost use Rattle.hv_value.specs.declared.cell.Kind.TheVariants as kind;
+ghost use Rattle.hv_sketch.specs.Columns.{IsColumnOf};
 ghost use Rattle.hv_view.specs.Plans.{FitsPlan};
-ghost use Rattle.hv_message.specs.Meant.{IsField, Tells};
+ghost use Rattle.hv_asked.specs.Flaws.{all_meant, map_ok};
+ghost use Rattle.hv_asked.specs.Meant.{IsField, Tells};
+ghost use Rattle.hv_asked.specs.Orders.{fits_order, order_over};
+ghost use Rattle.hv_message.specs.declared.asked.ViewAsked.TheVariants as wanted;
 ghost use Rattle.hv_message.specs.Views as seen;
 
-use crate::Why;
-use crate::asked::{AxisAsked, InnerAsked, ViewAsked};
-use crate::axes::{axes_in, axis_in, column, one_axis, three_axes, two_axes};
-use crate::fields::{field, name, number, word};
-use crate::refused::Refused;
+use crate::asked::{InnerAsked, ViewAsked};
+use hv_asked::axes::{axes_in, axis_in, column, one_axis, three_axes, two_axes};
+use hv_asked::fields::{field, name, names, number, word};
+use hv_asked::orders::{order_in, order_over};
+use hv_asked::preds::test_in;
+use hv_asked::{AxisAsked, OrderAsked, Refused, Why};
+use hv_expr::TextTest;
+use hv_find::Find;
 use hv_grid::{ByAxis, HeatMap, Stacked};
 use hv_hist::{Cdf, Histogram};
+use hv_next::NextRows;
 use hv_range::{Distinct, Range};
 use hv_sketch::Grouped;
-use hv_value::Schema;
+use hv_value::{Kind, Listed, Schema, Text};
 use hv_view::{AnyView, Plan};
 use serde_json::Value;
 use std::alloc::Global;
@@ -46,6 +56,23 @@ fn heat_map_of(alloc: Global, value: &Value) -> Result<ViewAsked, Refused>
 {
     let (x, y) = axes_in(alloc, value)?;
     Ok(ViewAsked::HeatMap(x, y))
+}
+
+fn next_of(alloc: Global, value: &Value) -> Result<ViewAsked, Refused>
+    ensures { IsField result (seen.next_of (view value.now)) }
+{
+    let order = order_in(alloc, value)?;
+    let k = number(value, "k")?;
+    Ok(ViewAsked::Next(order, k))
+}
+
+fn find_of(alloc: Global, value: &Value) -> Result<ViewAsked, Refused>
+    ensures { IsField result (seen.find_of (view value.now)) }
+{
+    let cols = names(alloc, value, "cols")?;
+    let test = test_in(alloc, field(value, "test")?)?;
+    let order = order_in(alloc, value)?;
+    Ok(ViewAsked::Find(cols, test, order))
 }
 
 fn trellis_of(alloc: Global, value: &Value) -> Result<ViewAsked, Refused>
@@ -81,6 +108,8 @@ fn view_of(alloc: Global, value: &Value) -> Result<ViewAsked, Refused>
         "stacked" => stacked_of(alloc, value),
         "heatmap" => heat_map_of(alloc, value),
         "trellis" => trellis_of(alloc, value),
+        "next" => next_of(alloc, value),
+        "find" => find_of(alloc, value),
         _ => Err(Refused::Word(Why::Field)),
     }
 }
@@ -93,7 +122,7 @@ pub(crate) fn view_in(alloc: Global, value: &Value) -> Result<ViewAsked, Refused
 }
 
 /// The plan of what is asked for, over the columns of a schema.
-pub(crate) fn planned(_alloc: Global, schema: &Schema, wanted: ViewAsked) -> Result<Plan, Refused>
+pub(crate) fn planned(alloc: Global, schema: &Schema, wanted: ViewAsked) -> Result<Plan, Refused>
     requires { seen.fits_view wanted ≡ true }
     ensures value { Tells result (seen.planned schema.now wanted) }
     ensures fits { IfOk result (λ plan. FitsPlan plan schema.now) }
@@ -124,6 +153,66 @@ pub(crate) fn planned(_alloc: Global, schema: &Schema, wanted: ViewAsked) -> Res
             Ok(Plan::One(AnyView::HeatMap(HeatMap::new(x, y))))
         }
         ViewAsked::Trellis(by, inner) => trellis_over(schema, by, inner),
+        ViewAsked::Next(order, k) => next_over(alloc, schema, order, k as u32),
+        ViewAsked::Find(cols, test, order) => find_over(alloc, schema, cols, test, order),
+    }
+}
+
+/// The plan of the next rows, `k` of them at most.
+fn next_over(alloc: Global, schema: &Schema, asked: OrderAsked, k: u32) -> Result<Plan, Refused>
+    requires { fits_order asked ≡ true }
+    ensures value { Tells result (map_ok (seen.next_plan (pos k)) (order_over schema.now asked)) }
+    ensures fits { IfOk result (λ plan. FitsPlan plan schema.now) }
+{
+    let (order, after) = order_over(alloc, schema, asked)?;
+    Ok(Plan::One(AnyView::NextRows(NextRows { order, after, k })))
+}
+
+/// The plan of a search for a text in the columns with these names.
+fn find_over(
+    alloc: Global,
+    schema: &Schema,
+    names: Listed<Text>,
+    test: TextTest,
+    asked: OrderAsked,
+) -> Result<Plan, Refused>
+    requires { fits_order asked ≡ true }
+    ensures value { Tells result (seen.planned schema.now (wanted.Find names test asked)) }
+    ensures fits { IfOk result (λ plan. FitsPlan plan schema.now) }
+{
+    let cols = text_columns(alloc, schema, names.as_slice())?;
+    let (order, after) = order_over(alloc, schema, asked)?;
+    let find = Find {
+        cols,
+        test,
+        order,
+        after,
+    };
+    Ok(Plan::One(AnyView::Find(find)))
+}
+
+/// The places of the columns with these names, each of which has to be one of texts.
+fn text_columns(alloc: Global, schema: &Schema, names: &[Text]) -> Result<Listed<u32>, Refused>
+    ensures value { Tells result (all_meant (seen.text_named schema.now) names.now) }
+    ensures there { IfOk result (λ cols. All (λ col. IsColumnOf schema.now col kind.Text) cols) }
+{
+    let mut cols = Listed::new(alloc);
+    let mut rest = names;
+    while let [first, after @ ..] = rest {
+        cols.push(text_column(schema, first)?)?;
+        rest = after;
+    }
+    Ok(cols)
+}
+
+/// The place of the column with a name, which has to be one of texts.
+fn text_column(schema: &Schema, name: &Text) -> Result<u32, Why>
+    ensures value { result ≡ seen.text_named schema.now name.now }
+    ensures there { IfOk result (λ col. IsColumnOf schema.now col kind.Text) }
+{
+    match column(schema, name)? {
+        (col, Kind::Text) => Ok(col),
+        _ => Err(Why::Kind),
     }
 }
 

@@ -1,5 +1,5 @@
 use Rattle.std.proofs.Common.{◌≡◌, true, sym, subst}
-use Rattle.hv_message.specs.Tables.{are_parts}
+use Rattle.hv_asked.specs.Tables.{are_parts}
 use Rattle.hv_message.proofs.TableLemmas.{inline_fits}
 use Rattle.hv_message.proofs.made.inline_over.Goals as goal
 

@@ -1,0 +1,5 @@
+pub mod AskedFolds
+pub mod AskedNodes
+pub mod TreeLemmas
+pub mod WordLemmas
+pub mod AxisLemmas

@@ -1,0 +1,9 @@
+pub mod Fields
+pub mod Flaws
+pub mod Constants
+pub mod Axes
+pub mod Words
+pub mod Trees
+pub mod Orders
+pub mod Tables
+pub mod Meant
