@@ -14,10 +14,10 @@ use Rattle.hv_lineage.specs.Lineages.{TermOver}
 use Rattle.hv_lineage.specs.declared.base.Base.{Base}
 use Rattle.hv_lineage.specs.declared.base.Base.TheVariants as base
 use Rattle.hv_lineage.specs.declared.term.Term.TheVariants as term
-use Rattle.hv_message.specs.Fields.{all_read}
+use Rattle.hv_asked.specs.Fields.{all_read}
 use Rattle.hv_message.specs.LineageTexts.{base_in}
-use Rattle.hv_message.specs.Tables.{are_parts, column_of, is_short_part}
-use Rattle.hv_message.proofs.WordLemmas.{kind_back}
+use Rattle.hv_asked.specs.Tables.{are_parts, column_of, is_short_part}
+use Rattle.hv_asked.proofs.WordLemmas.{kind_back}
 use Rattle.hv_reply.specs.Lineages.{column_data, lineage_data}
 use Rattle.hv_reply.specs.ReadBack.{IsKnownBase}
 

@@ -14,9 +14,9 @@ use Rattle.hv_expr.specs.declared.expr.Expr.TheVariants as expr
 use Rattle.hv_expr.specs.Checks.{expr_fault, expr_faults, first_fault}
 use Rattle.hv_expr.specs.Sizes.{expr_depth, expr_measure, expr_nodes}
 use Rattle.hv_expr.proofs.Folds.{fold-Col, fold-Year, fold-Month, fold-Day, fold-Length, fold-Linear, fold-Join}
-use Rattle.hv_message.specs.Fields.{shaped}
-use Rattle.hv_message.specs.Trees.{expr_in, fits_expr, levels}
-use Rattle.hv_message.specs.declared.limits.TheConstants.{MAX_NODES}
+use Rattle.hv_asked.specs.Fields.{shaped}
+use Rattle.hv_asked.specs.Trees.{expr_in, fits_expr, levels}
+use Rattle.hv_asked.specs.declared.limits.TheConstants.{MAX_NODES}
 use Rattle.hv_reply.specs.Lineages.{expr_data, expr_node_data}
 use Rattle.hv_reply.specs.ReadBack.{IsGivenExpr}
 

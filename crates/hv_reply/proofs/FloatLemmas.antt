@@ -19,13 +19,14 @@ use Rattle.hv_lineage.specs.declared.term.Term.TheOpen.{Term-F}
 use Rattle.hv_lineage.specs.Lineages.{TermOver, lineage_columns}
 use Rattle.hv_grid.specs.declared.shown.HeatMapShown.{HeatMapShown}
 use Rattle.hv_hist.specs.declared.shown.HistogramShown.{HistogramShown}
+use Rattle.hv_next.specs.declared.summary.NextRow.{NextRow}
 use Rattle.hv_view.specs.declared.shown.Shown.{Shown}
 use Rattle.hv_view.specs.declared.shown.Shown.TheVariants as shown
 use Rattle.hv_reply.specs.declared.reply.Reply.{Reply}
 use Rattle.hv_reply.specs.declared.reply.Reply.TheVariants as reply
 use Rattle.hv_reply.specs.Lineages.{base_data, columns_data, expr_data, expr_node_data, lineage_data, pred_data, pred_node_data, term_data, term_node_data, texts_data}
 use Rattle.hv_reply.specs.Replies.{reply_data}
-use Rattle.hv_reply.specs.Values.{cell_data, day_data, grid_data, heat_map_data, histogram_data, list_of, shown_data, sum_data, whole, whole_or_null}
+use Rattle.hv_reply.specs.Values.{cell_data, day_data, grid_data, heat_map_data, histogram_data, key_or_null, list_of, next_row_data, shown_data, sum_data, whole, whole_or_null}
 
 -- ---- numbers, cells and lists
 
@@ -80,6 +81,14 @@ heat_maps : (hs : List HeatMapShown) → has_float (list_of (map heat_map_data h
 heat_maps [] = refl
 heat_maps (h ∷ hs) = rw (heat_map_plain h) (heat_maps hs)
 
+next_rows : (rows : List NextRow) → has_float (list_of (map next_row_data rows)) ≡ false
+next_rows [] = refl
+next_rows (row ∷ rows) = rw (cells row.key) (next_rows rows)
+
+key_plain : (key : Option (List Cell)) → has_float (key_or_null key) ≡ false
+key_plain None = refl
+key_plain (Some key) = cells key
+
 shown_plain : (s : Shown) → has_float (shown_data s) ≡ false
 shown_plain (shown.Range count greatest least missing sum) = rw (cell_plain greatest, cell_plain least, sum_plain sum) refl
 shown_plain (shown.Distinct more values) = rw (cells values) refl
@@ -89,6 +98,8 @@ shown_plain (shown.Stacked stacked) = rw (grid_plain stacked.counts, wholes stac
 shown_plain (shown.HeatMap heat) = heat_map_plain heat
 shown_plain (shown.TrellisHistogram groups rest) = rw (histograms groups) refl
 shown_plain (shown.TrellisHeatMap groups rest) = rw (heat_maps groups) refl
+shown_plain (shown.NextRows next) = rw (next_rows next.rows) refl
+shown_plain (shown.Find find) = rw (key_plain find.first) refl
 
 -- ---- columns and bases
 

@@ -8,10 +8,10 @@ use Rattle.hv_value.specs.Catalog.{Tables}
 use Rattle.hv_value.specs.Schema.{is_schema}
 use Rattle.hv_lineage.specs.Bases.{base_columns}
 use Rattle.hv_lineage.specs.Lineages.{IsLineage, TermOver}
-use Rattle.hv_message.specs.Flaws.{and_then, of_field}
+use Rattle.hv_asked.specs.Flaws.{and_then, of_field}
 use Rattle.hv_message.specs.LineageTexts.{lineage_of_data, lineage_of_object, lineage_of_text, term_in}
 use Rattle.hv_message.specs.Messages.{as_object_value}
-use Rattle.hv_message.specs.Trees.{levels}
+use Rattle.hv_asked.specs.Trees.{levels}
 use Rattle.hv_reply.specs.Lineages.{lineage_data}
 use Rattle.hv_reply.specs.ReadBack.{IsGiven}
 use Rattle.hv_reply.proofs.BaseBack.{base_back}

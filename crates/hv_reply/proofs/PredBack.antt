@@ -27,16 +27,16 @@ use Rattle.hv_expr.specs.declared.text_test.TextTest.{TextTest}
 use Rattle.hv_expr.specs.Checks.{cmp_faults, first_fault, kind_of_cell, kind_of_column, pred_fault, pred_faults, pred_node_faults}
 use Rattle.hv_expr.specs.Sizes.{greatest, pred_depth, pred_measure, pred_nodes}
 use Rattle.hv_expr.proofs.Folds.{fold-Cmp, fold-Missing, fold-Match, fold-And, fold-Or, fold-Not}
-use Rattle.hv_message.specs.Constants.{cell_beside, cell_in, fits_cell, is_short}
-use Rattle.hv_message.specs.Fields.{all_read}
-use Rattle.hv_message.specs.Trees.{asked_nodes, dated_node, dated_pred, fit_constant, fits_pred, has_fit_constants, levels, node_count, pred_in}
-use Rattle.hv_message.specs.declared.asked.CellAsked.{CellAsked}
-use Rattle.hv_message.specs.declared.asked.CellAsked.TheVariants as given
-use Rattle.hv_message.specs.declared.pred_asked.PredAsked.{PredAsked}
-use Rattle.hv_message.specs.declared.pred_asked.PredAsked.TheVariants as asks
-use Rattle.hv_message.proofs.AskedFolds as folded
-use Rattle.hv_message.proofs.WordLemmas.{how_back, rel_back}
-use Rattle.hv_message.specs.declared.limits.TheConstants.{MAX_NODES}
+use Rattle.hv_asked.specs.Constants.{cell_beside, cell_in, fits_cell, is_short}
+use Rattle.hv_asked.specs.Fields.{all_read}
+use Rattle.hv_asked.specs.Trees.{asked_nodes, dated_node, dated_pred, fit_constant, fits_pred, has_fit_constants, levels, node_count, pred_in}
+use Rattle.hv_asked.specs.declared.asked.CellAsked.{CellAsked}
+use Rattle.hv_asked.specs.declared.asked.CellAsked.TheVariants as given
+use Rattle.hv_asked.specs.declared.pred_asked.PredAsked.{PredAsked}
+use Rattle.hv_asked.specs.declared.pred_asked.PredAsked.TheVariants as asks
+use Rattle.hv_asked.proofs.AskedFolds as folded
+use Rattle.hv_asked.proofs.WordLemmas.{how_back, rel_back}
+use Rattle.hv_asked.specs.declared.limits.TheConstants.{MAX_NODES}
 use Rattle.hv_reply.specs.Lineages.{pred_data, pred_node_data}
 use Rattle.hv_reply.specs.ReadBack.{IsGivenPred, given_node, has_given_constants, is_given}
 use Rattle.hv_reply.specs.Values.{cell_data}

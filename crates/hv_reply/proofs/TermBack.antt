@@ -17,7 +17,7 @@ use Rattle.hv_lineage.specs.declared.term.Term.TheOpen.{Term-F}
 use Rattle.hv_lineage.specs.declared.term.Term.TheVariants as term
 use Rattle.hv_lineage.specs.declared.term.TheConstants.{MAX_TERM_DEPTH, MAX_TERM_NODES}
 use Rattle.hv_lineage.proofs.TermNodes.{AreFit, depth-Base, depth-Derive, depth-Filter, depth-Project, fold-Base, fold-Derive, fold-Filter, fold-Project, here-Derive, here-Filter, here-Project, inner-Derive, inner-Filter, inner-Project, size-Derive, size-Filter, size-Project}
-use Rattle.hv_message.specs.Flaws.{and_then}
+use Rattle.hv_asked.specs.Flaws.{and_then}
 use Rattle.hv_message.specs.LineageTexts.{term_in}
 use Rattle.hv_message.specs.Terms.{derive_of, filter_of, over, project_of}
 use Rattle.hv_reply.specs.Lineages.{term_data, term_node_data}

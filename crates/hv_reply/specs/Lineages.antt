@@ -15,7 +15,7 @@ use Rattle.hv_lineage.specs.declared.base.Base.TheVariants as base
 use Rattle.hv_lineage.specs.declared.term.Term.{Term, fold-Term}
 use Rattle.hv_lineage.specs.declared.term.Term.TheOpen.{Term-F}
 use Rattle.hv_lineage.specs.Lineages.{TermOver}
-use Rattle.hv_message.specs.Words.{how_word, kind_word, rel_word}
+use Rattle.hv_asked.specs.Words.{how_word, kind_word, rel_word}
 use Rattle.hv_reply.specs.Values.{cell_data, list_of}
 
 -- ---- schemas and bases

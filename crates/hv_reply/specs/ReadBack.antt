@@ -15,10 +15,10 @@ use Rattle.hv_lineage.specs.declared.base.Base.TheVariants as base
 use Rattle.hv_lineage.specs.declared.term.Term.{Term, every-Term}
 use Rattle.hv_lineage.specs.declared.term.Term.TheOpen.{Term-F}
 use Rattle.hv_lineage.specs.Lineages.{TermOver}
-use Rattle.hv_message.specs.Constants.{is_short}
+use Rattle.hv_asked.specs.Constants.{is_short}
 use Rattle.hv_message.specs.LineageTexts.{lineage_of_text}
-use Rattle.hv_message.specs.Trees.{has_short_texts}
-use Rattle.hv_message.specs.declared.limits.TheConstants.{MAX_NODES}
+use Rattle.hv_asked.specs.Trees.{has_short_texts}
+use Rattle.hv_asked.specs.declared.limits.TheConstants.{MAX_NODES}
 use Rattle.hv_reply.specs.Lineages.{lineage_text}
 
 -- whether a constant is one that a message can give: a number of an i64, a day of the years 1 to 9999, a text of at most 1,024 bytes

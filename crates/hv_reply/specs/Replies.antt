@@ -4,8 +4,8 @@ use Rattle.serde_json.specs.Data.{Data, boolean, string, object, Members, member
 use Rattle.serde_json.specs.Written.{compact_text}
 use Rattle.hv_lineage.specs.Lineages.{TermOver, lineage_columns}
 use Rattle.hv_lineage.specs.Sizes.{term_depth, term_size}
-use Rattle.hv_message.specs.declared.why.Why.{Why}
-use Rattle.hv_message.specs.declared.why.Why.TheVariants as why
+use Rattle.hv_asked.specs.declared.why.Why.{Why}
+use Rattle.hv_asked.specs.declared.why.Why.TheVariants as why
 use Rattle.hv_reply.specs.declared.reply.Reply.{Reply}
 use Rattle.hv_reply.specs.declared.reply.Reply.TheVariants as reply
 use Rattle.hv_reply.specs.Lineages.{columns_data, lineage_data}

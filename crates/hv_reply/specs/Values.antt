@@ -8,10 +8,13 @@ use Rattle.hv_value.specs.Civil.{text_of_day}
 use Rattle.hv_value.specs.Days.{is_day_number}
 use Rattle.hv_value.specs.declared.cell.Cell.{Cell}
 use Rattle.hv_value.specs.declared.cell.Cell.TheVariants as cell
+use Rattle.hv_find.specs.declared.summary.FindSummary.{FindSummary}
 use Rattle.hv_grid.specs.declared.shown.HeatMapShown.{HeatMapShown}
 use Rattle.hv_grid.specs.declared.shown.StackedShown.{StackedShown}
 use Rattle.hv_hist.specs.declared.shown.CdfShown.{CdfShown}
 use Rattle.hv_hist.specs.declared.shown.HistogramShown.{HistogramShown}
+use Rattle.hv_next.specs.declared.summary.NextRow.{NextRow}
+use Rattle.hv_next.specs.declared.summary.NextSummary.{NextSummary}
 use Rattle.hv_view.specs.declared.shown.Shown.{Shown}
 use Rattle.hv_view.specs.declared.shown.Shown.TheVariants as shown
 
@@ -75,6 +78,27 @@ abbrev pub groups_data : List Data → ℕ → Data
 groups_data groups rest = object (member (codes "groups") (list_of groups)
     (member (codes "rest") (whole rest) no_members))
 
+-- a key, its cells in turn, and how many rows have it
+abbrev pub next_row_data : NextRow → Data
+next_row_data row = object (member (codes "count") (whole row.count)
+    (member (codes "key") (list_of (map cell_data row.key)) no_members))
+
+-- how many rows aren't above, and the keys above, in turn
+abbrev pub next_data : NextSummary → Data
+next_data next = object (member (codes "before") (whole next.before)
+    (member (codes "rows") (list_of (map next_row_data next.rows)) no_members))
+
+-- the cells of a key, or null where there is none
+abbrev pub key_or_null : Option (List Cell) → Data
+key_or_null None = null
+key_or_null (Some key) = list_of (map cell_data key)
+
+-- how many rows that match are above, how many aren't, and the least key above
+abbrev pub find_data : FindSummary → Data
+find_data find = object (member (codes "above") (whole find.above)
+    (member (codes "before") (whole find.before)
+    (member (codes "first") (key_or_null find.first) no_members)))
+
 -- the value of a view
 abbrev pub shown_data : Shown → Data
 shown_data (shown.Range count greatest least missing sum) = object (member (codes "count") (whole count)
@@ -90,3 +114,5 @@ shown_data (shown.Stacked stacked) = stacked_data stacked
 shown_data (shown.HeatMap heat) = heat_map_data heat
 shown_data (shown.TrellisHistogram groups rest) = groups_data (map histogram_data groups) rest
 shown_data (shown.TrellisHeatMap groups rest) = groups_data (map heat_map_data groups) rest
+shown_data (shown.NextRows next) = next_data next
+shown_data (shown.Find find) = find_data find

@@ -8,6 +8,7 @@ mod lineages;
 mod preds;
 mod replies;
 mod reply;
+mod rows;
 mod texts;
 mod values;
 

@@ -3,7 +3,7 @@
 ghost use Rattle.std.specs.Prelude.{◌≡◌, codes, map, IfOk};
 ghost use Rattle.serde_json.specs.Data.{boolean, string, object, member, no_members};
 ghost use Rattle.serde_json.specs.View.{view, items_of};
-ghost use Rattle.hv_message.specs.Words.{how_word, rel_word};
+ghost use Rattle.hv_asked.specs.Words.{how_word, rel_word};
 ghost use Rattle.hv_reply.specs.Lineages.{pred_data};
 ghost use Rattle.hv_reply.specs.Values.{cell_data, list_of};
 

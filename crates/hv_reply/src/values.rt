@@ -14,6 +14,7 @@ ghost use Rattle.hv_reply.specs.Values.{cell_data, day_data, list_of, shown_data
 use crate::charts::{
     cdf_value, heat_map_value, heat_maps_value, histogram_value, histograms_value, stacked_value,
 };
+use crate::rows::{find_value, next_value};
 use hv_value::{Cell, Mem, date_text};
 use hv_view::Shown;
 use serde_json::{Value, json};
@@ -133,6 +134,8 @@ pub fn shown_value(alloc: Global, shown: &Shown) -> Mem<Value>
             histograms_value(alloc, groups.as_slice(), *rest)
         }
         Shown::TrellisHeatMap { groups, rest } => heat_maps_value(alloc, groups.as_slice(), *rest),
+        Shown::NextRows(next) => next_value(alloc, next),
+        Shown::Find(find) => find_value(alloc, find),
     }
 }
 
