@@ -5,10 +5,10 @@ use Rattle.serde_json.specs.Data.{Data}
 use Rattle.hv_lineage.specs.Lineages.{TermOver}
 use Rattle.hv_message.specs.declared.asked.Asked.{Asked}
 use Rattle.hv_message.specs.declared.asked.Asked.TheVariants.{Load, Over, Info, View, Cancel, End}
-use Rattle.hv_message.specs.declared.why.Why.{Why}
-use Rattle.hv_message.specs.declared.why.Why.TheVariants as why
-use Rattle.hv_message.specs.Fields.{text_at}
-use Rattle.hv_message.specs.Flaws.{and_then}
+use Rattle.hv_asked.specs.declared.why.Why.{Why}
+use Rattle.hv_asked.specs.declared.why.Why.TheVariants as why
+use Rattle.hv_asked.specs.Fields.{text_at}
+use Rattle.hv_asked.specs.Flaws.{and_then}
 use Rattle.hv_message.specs.Messages.{Known, Meaning, makes, tells, views, cancels, ends, Reading, means, malformed, asked, made_in, opened_in, object_at, of_known, is_open, meaning, id_in, operation, checked, reading_of, with_id, object_of, reading_of_object, reading_of_value, reading}
 use Rattle.hv_message.specs.Tables.{loaded}
 

@@ -36,8 +36,8 @@ use Rattle.hv_lineage.specs.Lineages.{TermOver, lineage_columns}
 use Rattle.hv_lineage.specs.Made.{Made}
 use Rattle.hv_lineage.proofs.TermNodes.{made-Base}
 use Rattle.hv_member.specs.Sets.{numbers}
-use Rattle.hv_message.specs.declared.why.Why.TheVariants as why
-use Rattle.hv_message.specs.Flaws.{and_then}
+use Rattle.hv_asked.specs.declared.why.Why.TheVariants as why
+use Rattle.hv_asked.specs.Flaws.{and_then}
 use Rattle.hv_message.specs.Messages.{Known, Reading, makes, views, cancels, means, malformed, opened_in, reading, reading_of, reading_of_value}
 use Rattle.hv_message.specs.declared.asked.ViewAsked.{ViewAsked}
 use Rattle.hv_message.specs.declared.asked.ViewAsked.TheVariants as asked

@@ -6,7 +6,7 @@ use Rattle.serde_json.specs.Data.{Data, Num, unsigned, negative, float}
 use Rattle.serde_json.specs.Find.{get, as_number, as_object, as_u64}
 use Rattle.serde_json.specs.Read.{read}
 use Rattle.serde_json.specs.Written.{compact_text, has_float}
-use Rattle.hv_message.specs.Fields.{text_at}
+use Rattle.hv_asked.specs.Fields.{text_at}
 use Rattle.hv_play.specs.declared.entry.BadLine.{BadLine}
 use Rattle.hv_play.specs.declared.entry.BadLine.TheVariants as bad_line
 

@@ -2,7 +2,7 @@
 
 ghost use Rattle.std.specs.Prelude.{◌≡◌, option_map};
 ghost use Rattle.serde_json.specs.View.{view};
-ghost use Rattle.hv_message.specs.Fields as field;
+ghost use Rattle.hv_asked.specs.Fields as field;
 ghost use Rattle.hv_play.specs.Script as line;
 
 use serde_json::Value;

@@ -5,10 +5,10 @@ use Rattle.std.specs.Prelude.{◌⊎◌, option_and_then}
 use Rattle.serde_json.specs.Data.{Data}
 use Rattle.serde_json.specs.Read.{read}
 use Rattle.hv_value.specs.Catalog.{Tables}
-use Rattle.hv_message.specs.declared.limits.TheConstants.{MAX_MESSAGE_BYTES}
+use Rattle.hv_asked.specs.declared.limits.TheConstants.{MAX_MESSAGE_BYTES}
 use Rattle.hv_message.specs.declared.message.Message.{Message}
-use Rattle.hv_message.specs.declared.why.Why.{Why}
-use Rattle.hv_message.specs.declared.why.Why.TheVariants as why
+use Rattle.hv_asked.specs.declared.why.Why.{Why}
+use Rattle.hv_asked.specs.declared.why.Why.TheVariants as why
 use Rattle.hv_message.specs.Meant.{IsReading, id_of, message_meant}
 use Rattle.hv_message.specs.declared.message.Refusal.{Refusal}
 use Rattle.hv_message.specs.declared.message.Refusal.TheVariants as refusal

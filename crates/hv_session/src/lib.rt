@@ -2,7 +2,7 @@
 #![tactic(auto)]
 
 mod answer;
-mod answers;
+mod last_words;
 mod request;
 mod session;
 #[cfg(test)]

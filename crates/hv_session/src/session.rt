@@ -11,7 +11,7 @@ ghost use Rattle.hv_session.specs.declared.request.OpenRequest.{OpenRequest as O
 ghost use Rattle.hv_session.specs.Held.{AnswersFirst, refusal_reply, replies_of, Serves};
 ghost use Rattle.hv_session.specs.Talk.{Pays, Replies, after_meaning, closed, known, new_talk};
 
-use crate::answers::last_word;
+use crate::last_words::last_word;
 use crate::{Answer, OpenRequest};
 use hv_lineage::{Lineage, Shared};
 use hv_message::{MAX_MESSAGE_BYTES, Message, Refusal, TalkState, Why, read_message, read_value};
@@ -72,6 +72,7 @@ impl Session {
         ensures talk { Replies self.old.tables self.old.talk text.now (replies_of result) self.new.talk }
         ensures tables { self.new.tables ≡ self.old.tables }
     {
+        // a field is read, so that what always holds of a session is known here
         let _ = &self.requests;
         if text.len() > MAX_MESSAGE_BYTES {
             return Answer::One(Reply::Malformed {
@@ -91,6 +92,7 @@ impl Session {
         ensures talk { Serves self.old.talk message (replies_of result) self.new.talk }
         ensures tables { self.new.tables ≡ self.old.tables }
     {
+        // a field is read, so that what always holds of a session is known here
         let _ = &self.requests;
         match message {
             Message::Make { id, made } => self.make(id, made),
@@ -155,6 +157,7 @@ impl Session {
         ensures talk { Serves self.old.talk (Message.Cancel id request) (replies_of result) self.new.talk }
         ensures tables { self.new.tables ≡ self.old.tables }
     {
+        // a field is read, so that what always holds of a session is known here
         let _ = &self.requests;
         self.close(request);
         Answer::Two(Reply::Cancelled { id: request }, Reply::Done { id })

@@ -3,7 +3,7 @@ use Rattle.hv_message.specs.Meant.{IsReading}
 use Rattle.hv_reply.specs.declared.reply.Reply.{Reply}
 use Rattle.std.specs.Prelude.{None}
 use Rattle.serde_json.specs.View.{view}
-use Rattle.hv_message.specs.declared.why.Why.TheVariants as why
+use Rattle.hv_asked.specs.declared.why.Why.TheVariants as why
 use Rattle.hv_message.specs.Messages.{Reading, as_object_value, id_of_text, reading, reading_of_object}
 use Rattle.hv_session.specs.Held.{replies_of}
 use Rattle.hv_session.specs.Talk.{Replies, known}

@@ -2,7 +2,7 @@ use Rattle.std.proofs.Common.{◌∙◌, ap}
 use Rattle.hv_member.specs.PartSet.{Parts}
 use Rattle.hv_member.specs.Sets.{inserted}
 use Rattle.hv_session.proofs.PartLemmas.{inserted-numbers}
-use Rattle.hv_session.proofs.answers.all_parts.Goals as goal
+use Rattle.hv_session.proofs.last_words.all_parts.Goals as goal
 
 pub loop-part-preserved : goal.loop-part-preserved
 loop-part-preserved c =

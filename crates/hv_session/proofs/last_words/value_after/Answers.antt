@@ -3,7 +3,7 @@ use Rattle.std.specs.Prelude.{IfSome}
 use Rattle.hv_value.specs.Rows.{Row}
 use Rattle.hv_view.specs.Plans.{IsFirstValue, OfPlan, value_next}
 use Rattle.hv_session.proofs.ValueLemmas.{untold}
-use Rattle.hv_session.proofs.answers.value_after.Goals as goal
+use Rattle.hv_session.proofs.last_words.value_after.Goals as goal
 
 -- the first view's value is that of the rows of the whole table
 pub then-requires-clause-shown : goal.then-requires-clause-shown

@@ -2,7 +2,7 @@ use Rattle.std.proofs.Common.{refl, subst}
 use Rattle.hv_lineage.specs.Lineages.{lineage_columns}
 use Rattle.hv_view.specs.Plans.{IsFirstView}
 use Rattle.hv_session.proofs.ValueLemmas.{first-value}
-use Rattle.hv_session.proofs.answers.first_of.Goals as goal
+use Rattle.hv_session.proofs.last_words.first_of.Goals as goal
 
 pub returns : goal.returns
 returns c = λ told.

@@ -8,7 +8,7 @@ use Rattle.hv_lineage.specs.Flat.{Told, flat_rows}
 use Rattle.hv_lineage.specs.Lineages.{lineage_columns, lineage_parts}
 use Rattle.hv_view.specs.Plans.{AreRowsUnder}
 use Rattle.hv_session.proofs.PartLemmas.{flat-more, numbers-more, under-append, under-table}
-use Rattle.hv_session.proofs.answers.summary_of.Goals as goal
+use Rattle.hv_session.proofs.last_words.summary_of.Goals as goal
 
 -- no rows are those of no partitions
 pub loop-part-init : goal.loop-part-init

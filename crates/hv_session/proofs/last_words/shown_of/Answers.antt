@@ -1,4 +1,4 @@
-use Rattle.hv_session.proofs.answers.shown_of.Goals as goal
+use Rattle.hv_session.proofs.last_words.shown_of.Goals as goal
 
 -- the summary of the whole table is shown
 pub returns : goal.returns

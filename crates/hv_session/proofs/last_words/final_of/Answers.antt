@@ -8,7 +8,7 @@ use Rattle.hv_lineage.specs.Lineages.{TermOver, lineage_columns, lineage_parts}
 use Rattle.hv_reply.specs.declared.reply.Reply.TheVariants as reply
 use Rattle.hv_view.specs.Plans.{OfPlan}
 use Rattle.hv_session.specs.Whole.{IsWhole}
-use Rattle.hv_session.proofs.answers.final_of.Goals as goal
+use Rattle.hv_session.proofs.last_words.final_of.Goals as goal
 
 pub returns : goal.returns
 returns c told =

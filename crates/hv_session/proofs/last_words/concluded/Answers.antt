@@ -2,7 +2,7 @@ use Rattle.std.proofs.Common.{subst}
 use Rattle.hv_lineage.specs.Lineages.{lineage_columns}
 use Rattle.hv_view.specs.Plans.{OfPlan}
 use Rattle.hv_session.proofs.ValueLemmas.{same-rows, untold}
-use Rattle.hv_session.proofs.answers.concluded.Goals as goal
+use Rattle.hv_session.proofs.last_words.concluded.Goals as goal
 
 -- both values are of the rows of the whole table
 pub conclude-requires : goal.conclude-requires

@@ -1,6 +1,6 @@
 use Rattle.hv_lineage.specs.Flat.{Told}
 use Rattle.hv_session.proofs.PartLemmas.{RowsBelow}
-use Rattle.hv_session.proofs.answers.summary_of.Given as goal
+use Rattle.hv_session.proofs.last_words.summary_of.Given as goal
 
 -- the summary stands for the partitions so far
 abbrev pub invariant-loop-part : goal.invariant-loop-part
