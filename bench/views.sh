@@ -4,11 +4,13 @@
 #
 # Has a small program over hv_part's table, of a column of whole numbers, one in 16 of them missing, and one of eight short
 # texts, take the range, the distinct values and a histogram of the numbers, a heat map of them by the texts with four
-# left boundaries, and a trellis of histograms by eight buckets of the numbers: of all rows, and of a table that was
-# filtered to half of them, whose rows are listed. Checks each range against the plain program's and each chart's counts
-# against plain Python's, and prints the nanoseconds a row, the best of the passes of five runs. Targets: of all rows the
-# range at most 1.5 plain loops, the histogram 2.5, the heat map 8, the trellis 7; the range of half the rows at most 3 plain
-# loops a kept row. Ends with 1 where an answer is wrong, or a target is missed by more than half.
+# left boundaries, a trellis of histograms by eight buckets of the numbers, the next 20 rows by text and number, the rows
+# whose text has a letter, and three pages of 500 keys of the numbers, near the start, in the middle and near the end: of
+# all rows, and of a table that was filtered to half of them, whose rows are listed. Checks each range against the plain
+# program's and all else against plain Python's, and prints the nanoseconds a row, the best of the passes of five runs.
+# Targets: of all rows the range at most 1.5 plain loops, the histogram 2.5, the heat map 8, the trellis 7, the next rows 6, the
+# search for a text 10; the range of half the rows at most 3 plain loops a kept row; of all rows no page more than a third
+# dearer than another. Ends with 1 where an answer is wrong, or a target is missed by more than half.
 #
 # The program is made, proved and built in a temporary folder, over copies of the crates; with a folder as its
 # argument, in that folder, which stays.
@@ -24,7 +26,7 @@ else
     work=$(mktemp -d) || exit 1
     trap 'rm -rf "$work"' EXIT
 fi
-crates="hv_value hv_member hv_column hv_part hv_sketch hv_range hv_bucket hv_hist hv_grid"
+crates="hv_value hv_member hv_column hv_part hv_sketch hv_range hv_bucket hv_hist hv_grid hv_next hv_expr hv_find"
 
 make_program() {
     mkdir -p "$work/repo/crates" && cd "$work/repo" && git init -q . || return 1
@@ -32,13 +34,14 @@ make_program() {
         sed -n "/^$crate:/p" "$1/crates.txt" >> crates.txt
         mkdir "crates/$crate" && cp -r "$1/crates/$crate/src" "$1/crates/$crate/specs" "$1/crates/$crate/proofs" "crates/$crate/"
     done
-    sed -n "s/^hv_range: hv_value hv_sketch/views: $crates/p" "$1/crates.txt" >> crates.txt
+    sed -n "s/^hv_find: hv_value hv_sketch hv_next hv_expr/views: $crates/p" "$1/crates.txt" >> crates.txt
     mkdir -p crates/views/src crates/views/specs crates/views/proofs/numbers crates/views/proofs/carriers crates/views/proofs/half
     : > crates/views/specs/Lib.antt
     : > crates/views/proofs/Lib.antt
     cat > crates/views/src/main.rt <<'RT'
 //! Takes views of a column of whole numbers and one of texts, over all rows and over half of them, in fifteen passes.
-//! Prints for each the rows, the nanoseconds of the best pass, and its value, of a chart a digest of its counts.
+//! Prints for each the rows, the nanoseconds of the best pass, and its value: of a chart a digest of its counts, of next
+//! rows how many come before, the keys, their rows and two of their numbers.
 #![tactic(auto)]
 
 ghost use Rattle.std.specs.Prelude.{◌≡◌, ◌≤◌, ◌∷◌, [], length, map, true, IfOk};
@@ -48,13 +51,16 @@ ghost use Rattle.hv_value.specs.declared.cell.Kind.TheVariants as kind;
 
 use hv_bucket::{Axis, Buckets, IntBuckets, TextBuckets};
 use hv_column::Column;
+use hv_expr::{How, TextTest};
+use hv_find::Find;
 use hv_grid::{ByAxis, HeatMap, Trellis};
 use hv_hist::Histogram;
 use hv_member::Member;
+use hv_next::{NextRows, NextSummary};
 use hv_part::PartTable;
 use hv_range::{Distinct, Range, RangeSummary};
 use hv_sketch::{Counts, Vizketch};
-use hv_value::{Cell, CellRef, Kind, Mem, Memory, Schema, Table, Text};
+use hv_value::{Cell, CellRef, Kind, Mem, Memory, Order, OrderKey, Schema, Table, Text};
 use std::alloc::Global;
 use std::env;
 use std::io;
@@ -62,6 +68,11 @@ use std::sync::Arc;
 use std::time::Instant;
 
 const MOST_ROWS: u32 = 1_000_000;
+
+/// The numbers above which the pages begin: few of the rows come before the first, and few after the last.
+const NEAR_START: i64 = -999_000_000;
+const MIDDLE: i64 = 0;
+const NEAR_END: i64 = 996_000_000;
 
 fn next(state: u64) -> u64 {
     state.wrapping_mul(6364136223846793005).wrapping_add(1442695040888963407)
@@ -230,7 +241,12 @@ fn show_views<T: Table>(rt: &HostRuntime, rows: &str, table: &T) -> io::Result<(
     println!(rt; "{rows} {best} {count} {}", u8::from(distinct.more))?;
     show_chart(rt, rows, histogram(rt, table))?;
     show_chart(rt, rows, heat_map(rt, table))?;
-    show_chart(rt, rows, trellis(rt, table))
+    show_chart(rt, rows, trellis(rt, table))?;
+    show_page(rt, rows, first_keys(rt.alloc()), table)?;
+    show_found(rt, rows, with_an_a(rt.alloc()), table)?;
+    show_page(rt, rows, keys_above(rt.alloc(), NEAR_START), table)?;
+    show_page(rt, rows, keys_above(rt.alloc(), MIDDLE), table)?;
+    show_page(rt, rows, keys_above(rt.alloc(), NEAR_END), table)
 }
 
 /// Counts in their order as one number, after others.
@@ -270,6 +286,130 @@ fn trellis<T: Table>(rt: &HostRuntime, table: &T) -> Mem<(u128, u64)> {
 fn show_chart(rt: &HostRuntime, rows: &str, chart: Mem<(u128, u64)>) -> io::Result<()> {
     match chart {
         Ok((best, digest)) => println!(rt; "{rows} {best} {digest}"),
+        Err(_) => println!(rt; "no memory"),
+    }
+}
+
+/// The numbers, up or down.
+fn by_numbers(alloc: Global, down: bool) -> Mem<Order> {
+    Ok(Order::new(vec![in alloc; OrderKey { col: 0, down }]?))
+}
+
+/// The first 20 keys by the texts and then the numbers.
+fn first_keys(alloc: Global) -> Mem<NextRows> {
+    let text = OrderKey {
+        col: 1,
+        down: false,
+    };
+    let number = OrderKey {
+        col: 0,
+        down: false,
+    };
+    let order = Order::new(vec![in alloc; text, number]?);
+    Ok(NextRows::new(order, None, 20))
+}
+
+/// The 500 keys above a number.
+fn keys_above(alloc: Global, number: i64) -> Mem<NextRows> {
+    let order = by_numbers(alloc, false)?;
+    let after = vec![in alloc; Cell::Int(number)]?;
+    Ok(NextRows::new(order, Some(after), 500))
+}
+
+/// The rows whose text has an A, the greatest number first.
+fn with_an_a(alloc: Global) -> Mem<Find> {
+    let order = by_numbers(alloc, true)?;
+    let col: u32 = 1;
+    let cols = vec![in alloc; col]?;
+    let text = Text::of(alloc, "A")?;
+    let test = TextTest {
+        how: How::Contains,
+        fold: false,
+        text,
+    };
+    Ok(Find::new(cols, test, order, None))
+}
+
+/// The number that ends a key, 0 where it is missing.
+fn last_number(key: &[Cell]) -> i64 {
+    let mut number = 0;
+    for cell in key {
+        number = number_of(cell);
+    }
+    number
+}
+
+/// Of next rows: the rows before, the keys, the rows that have them, and the numbers that end the first key and the last.
+fn page_of(summary: &NextSummary) -> (u64, u64, u64, i64, i64) {
+    let mut keys: u64 = 0;
+    let mut rows: u64 = 0;
+    let mut first = 0;
+    let mut last = 0;
+    for row in summary.rows.as_slice() {
+        last = last_number(row.key.as_slice());
+        if keys == 0 {
+            first = last;
+        }
+        keys = keys.wrapping_add(1);
+        rows = rows.wrapping_add(row.count);
+    }
+    (summary.before, keys, rows, first, last)
+}
+
+/// The nanoseconds of next rows, and what they are.
+fn page<T: Table>(
+    rt: &HostRuntime,
+    view: &NextRows,
+    table: &T,
+) -> Mem<(u128, (u64, u64, u64, i64, i64))> {
+    let (best, summary) = measured(rt, view, table)?;
+    Ok((best, page_of(&summary)))
+}
+
+fn show_page<T: Table>(
+    rt: &HostRuntime,
+    rows: &str,
+    view: Mem<NextRows>,
+    table: &T,
+) -> io::Result<()> {
+    let Ok(view) = view else {
+        return println!(rt; "no memory");
+    };
+    let shown = page(rt, &view, table);
+    drop(view);
+    match shown {
+        Ok((best, (before, keys, counted, first, last))) => {
+            println!(rt; "{rows} {best} {before} {keys} {counted} {first} {last}")
+        }
+        Err(_) => println!(rt; "no memory"),
+    }
+}
+
+/// The nanoseconds of a search, the rows that were found, those before, and the number that ends the first key.
+fn found<T: Table>(rt: &HostRuntime, view: &Find, table: &T) -> Mem<(u128, (u64, u64, i64))> {
+    let (best, summary) = measured(rt, view, table)?;
+    let first = match &summary.first {
+        Some(key) => last_number(key.as_slice()),
+        None => 0,
+    };
+    Ok((best, (summary.above, summary.before, first)))
+}
+
+fn show_found<T: Table>(
+    rt: &HostRuntime,
+    rows: &str,
+    view: Mem<Find>,
+    table: &T,
+) -> io::Result<()> {
+    let Ok(view) = view else {
+        return println!(rt; "no memory");
+    };
+    let shown = found(rt, &view, table);
+    drop(view);
+    match shown {
+        Ok((best, (above, before, first))) => {
+            println!(rt; "{rows} {best} {above} {before} {first}")
+        }
         Err(_) => println!(rt; "no memory"),
     }
 }
@@ -344,12 +484,18 @@ here=$PWD
 (make_program "$here") || exit 1
 
 cat > "$work/measure.py" <<'PY'
-import subprocess, sys
+import collections, heapq, subprocess, sys
 views, plain = sys.argv[1:]
 ROWS, RUNS = 1_000_000, 5
 LO, HI = -900_000_000, 900_000_000
-VIEWS = ["range", "distinct", "histogram", "heat map", "trellis"]
+CHARTS = ["histogram", "heat map", "trellis"]
+# the numbers above which the pages begin
+PAGES = {"page near the start": -999_000_000, "page in the middle": 0, "page near the end": 996_000_000}
+VIEWS = ["range", "distinct", *CHARTS, "next rows", "find", *PAGES]
 TARGETS = {("range", "all"): 1.5, ("histogram", "all"): 2.5, ("heat map", "all"): 8, ("trellis", "all"): 7, ("range", "half"): 3}
+TARGETS |= {("next rows", "all"): 6, ("find", "all"): 10}
+TEXTS = ["AA", "AS", "B6", "DL", "F9", "HA", "UA", "WN"]
+MOST_TIMES = 4 / 3
 
 def rows():
     """The number of each row or None, the place of its text among eight, and whether it is kept."""
@@ -376,6 +522,24 @@ def charts(some):
             rest += 1
     return histogram, heat, sum(groups, []) + [rest]
 
+def page(keys, count, above=None):
+    """What is shown of the first keys, each with its number of rows, of tuples that end with a number or None."""
+    def rank(key):
+        return [*key[:-1], key[-1] is not None, key[-1] or 0]
+    rows = collections.Counter(keys)
+    some = [key for key in rows if above is None or key[-1] is not None and key[-1] > above]
+    first = heapq.nsmallest(count, some, rank)
+    shown = [len(keys) - sum(rows[key] for key in some), len(first), sum(rows[key] for key in first), first[0][-1] or 0, first[-1][-1] or 0]
+    return list(map(str, shown))
+
+def keyed(some):
+    """What is shown of the next rows, of the search, and of each page."""
+    yield page([(text, x) for x, text, _ in some], 20)
+    found = [x for x, text, _ in some if "A" in TEXTS[text]]
+    yield [str(len(found)), "0", str(max(x for x in found if x is not None))]
+    for above in PAGES.values():
+        yield page([(x,) for x, _, _ in some], 500, above)
+
 def digest(counts):
     found = 0
     for count in counts:
@@ -389,11 +553,10 @@ def lines_of(program):
 all_rows = list(rows())
 kept_rows = [row for row in all_rows if row[2]]
 counts = {"all": len(all_rows), "half": len(kept_rows)}
-wanted = {
-    (view, name): [str(digest(found))]
-    for name, some in (("all", all_rows), ("half", kept_rows))
-    for view, found in zip(VIEWS[2:], charts(some), strict=True)
-}
+wanted = {}
+for name, some in (("all", all_rows), ("half", kept_rows)):
+    found = [[str(digest(counted))] for counted in charts(some)]
+    wanted |= {(view, name): value for view, value in zip(VIEWS[2:], [*found, *keyed(some)], strict=True)}
 best = {}
 def note(name, took):
     best[name] = min(took, best.get(name, took))
@@ -423,6 +586,10 @@ for name in counts:
             line += f"; target of {target}: " + ("met" if times <= target else "MISSED")
             failed |= times > 1.5 * target
         print(line)
+pages = [best[view, "all"] for view in PAGES]
+times = max(pages) / min(pages)
+print(f"the dearest of the three pages of all rows costs {times:.2f} times the cheapest; target of {MOST_TIMES:.2f}: " + ("met" if times <= MOST_TIMES else "MISSED"))
+failed |= times > 1.5 * MOST_TIMES
 sys.exit(1 if failed else 0)
 PY
 python3 "$work/measure.py" "$work/repo/crates/views/out/views" "$work/plain"
