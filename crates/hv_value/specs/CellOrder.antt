@@ -1,10 +1,10 @@
--- The laws of the order of cells: it is total, cells that tie are equal, and numbers of one kind compare as numbers.
+-- The laws of the order of cells: it is total, cells that tie are equal, and two of one kind compare as numbers or as bytes.
 use Rattle.std.proofs.Common.{◌≡◌, refl, sym, ap, arith}
-use Rattle.std.specs.Prelude.{ℤ}
+use Rattle.std.specs.Prelude.{ℕ, ℤ, List}
 use Rattle.std.specs.Cmp.{IsTotalOrder, nat_cmp_total, int_cmp_total, on_total, then_total}
-use Rattle.std.specs.Cmp.Lexicographic.{nat_list_cmp_total}
+use Rattle.std.specs.Cmp.Lexicographic.{nat_list_cmp_total, slice_cmp}
 use Rattle.std.specs.FinMap.{IsAntisymmetric, nat_cmp-IsAntisymmetric, int_cmp-IsAntisymmetric, slice_cmp-IsAntisymmetric}
-use Rattle.std.specs.Ordering.{int_cmp, ordering_then}
+use Rattle.std.specs.Ordering.{int_cmp, nat_cmp, ordering_then}
 use Rattle.std.specs.declared.cmp.Ordering.{Ordering}
 use Rattle.std.specs.declared.cmp.Ordering.TheVariants.{Less, Equal, Greater}
 use Rattle.hv_value.specs.declared.cell.Cell.{Cell}
@@ -60,7 +60,7 @@ cells_same x y e =
     same_parts x y (nat_cmp-IsAntisymmetric _ _ (then_first _ _ e)) (int_cmp-IsAntisymmetric _ _ (then_first _ _ rest))
     (slice_cmp-IsAntisymmetric nat_cmp-IsAntisymmetric _ _ (then_second _ _ rest))
 
--- whole numbers, and days, compare as numbers
+-- whole numbers, and days, compare as numbers, and texts as their bytes
 pub compare-ints : (m n : ℤ) → compare_cells (cell.Int m) (cell.Int n) ≡ int_cmp m n
 unfolding compare_cells
 compare-ints m n = sym (then_nothing (int_cmp m n))
@@ -68,3 +68,7 @@ compare-ints m n = sym (then_nothing (int_cmp m n))
 pub compare-days : (m n : ℤ) → compare_cells (cell.Date m) (cell.Date n) ≡ int_cmp m n
 unfolding compare_cells
 compare-days m n = sym (then_nothing (int_cmp m n))
+
+pub compare-texts : (s t : List ℕ) → compare_cells (cell.Text s) (cell.Text t) ≡ slice_cmp nat_cmp s t
+unfolding compare_cells
+compare-texts s t = refl

@@ -4,6 +4,7 @@ pub mod Cells
 pub mod Civil
 pub mod Codes
 pub mod Days
+pub mod Hashes
 pub mod Number
 pub mod Order
 pub mod OrderLaws

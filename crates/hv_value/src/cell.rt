@@ -1,13 +1,12 @@
 //! Cells and their kinds. The definitions' cells are the values of `Cell`.
 
-ghost use Rattle.std.specs.Prelude.{◌≡◌, ◌↔◌, ◌++◌, IsTrue, IfOk};
+ghost use Rattle.std.specs.Prelude.{◌≡◌, ◌↔◌, IsTrue, IfOk};
 ghost use Rattle.std.specs.Cmp.{partial_equiv_from_equiv};
-ghost use Rattle.std.specs.Hash as fed;
 ghost use Rattle.std.proofs.Common.{ap};
 ghost use Rattle.hv_value.specs.Same.{same_by};
 ghost use Rattle.hv_value.specs.SameLaws.{same_by-decides, same_by-equiv};
-ghost use Rattle.hv_value.specs.Order.{order_bytes, order_number};
 ghost use Rattle.hv_value.specs.Cells.{cell_lent};
+ghost use Rattle.hv_value.specs.Hashes.{cell_writes};
 
 use crate::order::{number_of, text_of};
 use crate::{Mem, Text};
@@ -57,6 +56,7 @@ impl Cell {
     }
 
     /// The cell, lent.
+    #[inline(always)]
     pub fn lent(&self) -> CellRef<'_>
         ensures { cell_lent result ≡ self.now }
     {
@@ -103,9 +103,9 @@ impl Eq for Cell {
 impl Hash for Cell {
     ghost use Rattle.hv_value.specs.contracts.cell.Cell as row;
 
-    ghost hash_input = { λ c. fed.i64 (order_number c) ++ fed.str (order_bytes c) };
+    ghost hash_input = { cell_writes };
 
-    ghost respects_eq = { λ x y e. ap (λ c. fed.i64 (order_number c) ++ fed.str (order_bytes c)) ((same_by-decides row.the_row.coded x y).0 e) };
+    ghost respects_eq = { λ x y e. ap cell_writes ((same_by-decides row.the_row.coded x y).0 e) };
 
     fn hash<H: Hasher>(&self, state: &mut H) {
         number_of(self.lent()).hash(state);

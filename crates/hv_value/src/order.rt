@@ -1,7 +1,8 @@
 //! The order of cells. The definition is `compare_cells` (specs/Order.antt).
 
 ghost use Rattle.std.specs.Prelude.{◌≡◌};
-ghost use Rattle.std.specs.Ordering.{int_cmp};
+ghost use Rattle.std.specs.Cmp.Lexicographic.{slice_cmp};
+ghost use Rattle.std.specs.Ordering.{int_cmp, nat_cmp};
 ghost use Rattle.hv_value.specs.Cells.{cell_lent};
 ghost use Rattle.hv_value.specs.Order.{compare_cells, order_bytes, order_number, variant_place};
 
@@ -9,21 +10,31 @@ use crate::CellRef;
 use std::cmp::Ordering;
 
 /// How two cells compare: missing is the least; whole numbers and days order by number, texts by bytes, and
-/// cells of two kinds as their variants stand in `Cell`. Two whole numbers, or two days, cost one comparison.
+/// cells of two kinds as their variants stand in `Cell`. Two of one kind cost one comparison.
+#[inline(always)]
 pub fn compare(a: CellRef<'_>, b: CellRef<'_>) -> Ordering
     ensures { result ≡ compare_cells (cell_lent a.entry) (cell_lent b.entry) }
 {
     match (a, b) {
         (CellRef::Int(m), CellRef::Int(n)) => by_number(m, n),
         (CellRef::Date(m), CellRef::Date(n)) => by_number(i64::from(m), i64::from(n)),
+        (CellRef::Text(s), CellRef::Text(t)) => by_text(s, t),
         _ => by_parts(a, b),
     }
 }
 
+#[inline(always)]
 fn by_number(m: i64, n: i64) -> Ordering
     ensures { result ≡ int_cmp m n }
 {
     m.cmp(&n)
+}
+
+#[inline(always)]
+fn by_text(s: &str, t: &str) -> Ordering
+    ensures { result ≡ slice_cmp nat_cmp s.now t.now }
+{
+    s.cmp(t)
 }
 
 /// How any two cells compare: by their variants' places, their numbers and their texts in turn.

@@ -2,9 +2,9 @@
 
 ghost use Rattle.std.specs.Prelude.{◌≡◌, ◌<◌, ◌≤◌, ◌↔◌, length, IsTrue, IfOk, option_map, Some};
 ghost use Rattle.std.specs.Cmp.{partial_equiv_from_equiv};
-ghost use Rattle.std.specs.Hash as fed;
 ghost use Rattle.std.proofs.Common.{ap};
 ghost use Rattle.hv_value.specs.Cells.{cell_lent};
+ghost use Rattle.hv_value.specs.Hashes.{order_writes};
 ghost use Rattle.hv_value.specs.Orders.{AreInColumns, compare_by, compare_keys, key_of};
 ghost use Rattle.hv_value.specs.Rows.{Row};
 ghost use Rattle.hv_value.specs.Same.{same_by};
@@ -46,6 +46,7 @@ impl Model for Order {
 }
 
 /// How two cells compare by one key.
+#[inline(always)]
 fn compare_cell(key: &OrderKey, a: CellRef<'_>, b: CellRef<'_>) -> Ordering
     ensures { result ≡ compare_by key.now (cell_lent a.entry) (cell_lent b.entry) }
 {
@@ -125,6 +126,7 @@ impl Order {
 
     /// How a row that is there compares with a key of one cell a key. It copies nothing, and looks at no column after
     /// the first that tells the two apart.
+    #[inline(always)]
     pub fn compare_row<T: Table>(&self, table: &T, row: u32, key: &[Cell]) -> Ordering
         requires row_there { option_map (λ found. found.number) (row_from row (T.rows table.now)) ≡ Some row }
         requires cols_there { AreInColumns (T.columns table.now) self.now }
@@ -161,14 +163,15 @@ impl Eq for Order {
     ghost laws = { same_by-equiv row.the_row.coded };
 }
 
+/// The same orders write the same into a hasher.
 impl Hash for Order {
     ghost use Rattle.hv_value.specs.contracts.orders.Order as row;
 
-    ghost hash_input = { λ keys. fed.usize (length keys) };
+    ghost hash_input = { order_writes };
 
-    ghost respects_eq = { λ x y e. ap (λ keys. fed.usize (length keys)) ((same_by-decides row.the_row.coded x y).0 e) };
+    ghost respects_eq = { λ x y e. ap order_writes ((same_by-decides row.the_row.coded x y).0 e) };
 
     fn hash<H: Hasher>(&self, state: &mut H) {
-        self.keys.len().hash(state);
+        self.keys.as_slice().hash(state);
     }
 }

@@ -43,6 +43,7 @@ impl Text {
         Text { inner: s }
     }
 
+    #[inline(always)]
     pub fn as_str(&self) -> &str
         ensures { result.now ≡ self.now }
     {
