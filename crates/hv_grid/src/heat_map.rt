@@ -6,10 +6,10 @@ ghost use Rattle.hv_grid.specs.Grids.{heat_map_of};
 ghost use Rattle.hv_grid.specs.Slots.{IsHeatMapCounted};
 
 use crate::HeatMapShown;
-use crate::shown::{count_at, grid_of};
+use crate::shown::grid_of;
 use crate::slots::grid_slot;
 use hv_bucket::{Axis, Place};
-use hv_sketch::{Counts, Sorter, Vizketch, add_tally, empty_tally, tally};
+use hv_sketch::{Counts, Sorter, Vizketch, add_tally, count_at, empty_tally, tally};
 use hv_value::{Mem, Schema, Table};
 use std::alloc::Global;
 

@@ -4,6 +4,7 @@ ghost use Rattle.std.specs.Prelude.{◌≡◌, ◌+◌, ◌*◌, get_or, map, If
 ghost use Rattle.std.specs.List.{range_with_len};
 
 use crate::slots::grid_slot;
+use hv_sketch::{copied_counts, count_at};
 use hv_value::{Listed, Mem};
 use std::alloc::Global;
 
@@ -52,13 +53,6 @@ impl HeatMapShown {
     }
 }
 
-/// Equal counts, in memory of their own.
-fn copied_counts(alloc: Global, counts: &[u64]) -> Mem<Listed<u64>>
-    ensures { IfOk result (λ copy. copy ≡ counts.now) }
-{
-    Ok(Listed::from_vec(Vec::from_slice(alloc, counts)?))
-}
-
 /// Equal rows of counts, in memory of their own.
 fn copied_rows(alloc: Global, rows: &[Listed<u64>]) -> Mem<Listed<Listed<u64>>>
     ensures { IfOk result (λ copy. copy ≡ rows.now) }
@@ -68,16 +62,6 @@ fn copied_rows(alloc: Global, rows: &[Listed<u64>]) -> Mem<Listed<Listed<u64>>>
         copy.push(copied_counts(alloc, row.as_slice())?)?;
     }
     Ok(copy)
-}
-
-/// The count of a slot, 0 where there is none.
-pub(crate) fn count_at(counts: &[u64], slot: usize) -> u64
-    ensures { result ≡ get_or counts.now slot 0 }
-{
-    match counts.get(slot) {
-        Some(count) => *count,
-        None => 0,
-    }
 }
 
 /// The first counts of one row of a grid whose rows have so many slots.

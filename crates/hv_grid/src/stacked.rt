@@ -6,10 +6,10 @@ ghost use Rattle.hv_grid.specs.Grids.{stacked_of};
 ghost use Rattle.hv_grid.specs.Slots.{IsStackedCounted, column_in};
 
 use crate::StackedShown;
-use crate::shown::{column_counts, count_at, grid_of};
+use crate::shown::{column_counts, grid_of};
 use crate::slots::grid_slot;
 use hv_bucket::{Axis, Place};
-use hv_sketch::{Counts, Sorter, Vizketch, add_tally, empty_tally, tally};
+use hv_sketch::{Counts, Sorter, Vizketch, add_tally, count_at, empty_tally, tally};
 use hv_value::{Mem, Schema, Table};
 use std::alloc::Global;
 

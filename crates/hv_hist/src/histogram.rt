@@ -6,9 +6,9 @@ ghost use Rattle.hv_hist.specs.Histogram.{histogram_of};
 ghost use Rattle.hv_hist.specs.Slots.{IsCounted};
 
 use crate::HistogramShown;
-use crate::shown::{count_at, first_counts};
+use crate::shown::first_counts;
 use hv_bucket::{Axis, Place};
-use hv_sketch::{Counts, Sorter, Vizketch, add_tally, empty_tally, tally};
+use hv_sketch::{Counts, Sorter, Vizketch, add_tally, count_at, empty_tally, tally};
 use hv_value::{Mem, Schema, Table};
 use std::alloc::Global;
 

@@ -1,10 +1,11 @@
 //! The values of charts of one axis, made of the counts by slot: one for each bucket, and then those of the rows
 //! outside of all buckets and of the rows with a missing cell.
 
-ghost use Rattle.std.specs.Prelude.{◌≡◌, ◌+◌, ◌<◌, ◌^◌, get_or, take, IfOk};
+ghost use Rattle.std.specs.Prelude.{◌≡◌, ◌+◌, ◌<◌, ◌^◌, take, IfOk};
 ghost use Rattle.std.specs.List.{sum};
 ghost use Rattle.hv_hist.specs.Sums.{running_sums};
 
+use hv_sketch::copied_counts;
 use hv_value::{Listed, Mem};
 use std::alloc::Global;
 
@@ -48,23 +49,6 @@ impl CdfShown {
             outside: self.outside,
             sums: copied_counts(alloc, self.sums.as_slice())?,
         })
-    }
-}
-
-/// Equal counts, in memory of their own.
-fn copied_counts(alloc: Global, counts: &[u64]) -> Mem<Listed<u64>>
-    ensures { IfOk result (λ copy. copy ≡ counts.now) }
-{
-    Ok(Listed::from_vec(Vec::from_slice(alloc, counts)?))
-}
-
-/// The count of a slot, 0 where there is none.
-pub(crate) fn count_at(counts: &[u64], slot: usize) -> u64
-    ensures { result ≡ get_or counts.now slot 0 }
-{
-    match counts.get(slot) {
-        Some(count) => *count,
-        None => 0,
     }
 }
 

@@ -1,9 +1,9 @@
 //! Counts by slot: numbers at places from 0, each of 64 bits. Contracts see them as their list.
 
-ghost use Rattle.std.specs.Prelude.{◌≡◌, ◌+◌, ◌<◌, ◌^◌, length, replicate, slice_index, slice_set, EachIndex, IfOk};
+ghost use Rattle.std.specs.Prelude.{◌≡◌, ◌+◌, ◌<◌, ◌^◌, length, get_or, replicate, slice_index, slice_set, EachIndex, IfOk};
 ghost use Rattle.hv_sketch.specs.Tally.{added};
 
-use hv_value::Mem;
+use hv_value::{Listed, Mem};
 use std::alloc::Global;
 use std::marker::Model;
 
@@ -76,4 +76,21 @@ fn add_each(counts: &mut [u64], others: &[u64])
     for slot in 0..counts.len() {
         counts[slot] += others[slot];
     }
+}
+
+/// The count of a slot, 0 where there is none.
+pub fn count_at(counts: &[u64], slot: usize) -> u64
+    ensures { result ≡ get_or counts.now slot 0 }
+{
+    match counts.get(slot) {
+        Some(count) => *count,
+        None => 0,
+    }
+}
+
+/// Equal counts as a list, in memory of their own.
+pub fn copied_counts(alloc: Global, counts: &[u64]) -> Mem<Listed<u64>>
+    ensures { IfOk result (λ copy. copy ≡ counts.now) }
+{
+    Ok(Listed::from_vec(Vec::from_slice(alloc, counts)?))
 }

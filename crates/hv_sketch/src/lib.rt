@@ -22,7 +22,7 @@ mod vizketch;
 pub use cell_gather::{CellGather, gather_cells};
 pub use cell_lists::copied_cells;
 pub use columns::is_column_of;
-pub use counts::Counts;
+pub use counts::{Counts, copied_counts, count_at};
 pub use gather::{Gather, gather_rows};
 pub use grouped::{Grouped, GroupedSummary};
 pub use groups::Groups;
