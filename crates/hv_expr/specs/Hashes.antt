@@ -1,8 +1,7 @@
 -- What a hash of a test, an expression or a predicate writes: a number for the node, then its parts in order.
 use Rattle.std.specs.Prelude.{ℕ, List, ◌++◌, flat_map}
 use Rattle.std.specs.Hash as fed
-use Rattle.hv_value.specs.declared.cell.Cell.{Cell}
-use Rattle.hv_value.specs.Order.{order_bytes, order_number}
+use Rattle.hv_value.specs.Hashes.{cell_writes}
 use Rattle.hv_expr.specs.declared.expr.Expr.{Expr, fold-Expr}
 use Rattle.hv_expr.specs.declared.expr.Expr.TheOpen.{Expr-F}
 use Rattle.hv_expr.specs.declared.pred.Pred.{Pred, fold-Pred}
@@ -28,9 +27,6 @@ how_number how.Begins = 2
 
 abbrev pub test_writes : TextTest → List (List ℕ)
 test_writes test = fed.u8 (how_number test.how) ++ fed.bool test.fold ++ fed.str test.text
-
-abbrev pub cell_writes : Cell → List (List ℕ)
-cell_writes c = fed.i64 (order_number c) ++ fed.str (order_bytes c)
 
 abbrev pub expr_node_writes : Expr-F (List (List ℕ)) → List (List ℕ)
 expr_node_writes (Expr-F.Col name) = fed.u8 0 ++ fed.str name

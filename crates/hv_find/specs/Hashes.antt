@@ -2,7 +2,8 @@
 use Rattle.std.specs.Prelude.{◌++◌}
 use Rattle.std.specs.Hash as fed
 use Rattle.hv_expr.specs.Hashes.{test_writes}
-use Rattle.hv_next.specs.Hashes.{after_writes, order_writes}
+use Rattle.hv_next.specs.Hashes.{after_writes}
+use Rattle.hv_value.specs.Hashes.{order_writes}
 use Rattle.hv_find.specs.declared.find.Find.{Find}
 
 -- the columns, the test, the order, and the key above which rows are

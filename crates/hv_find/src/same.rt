@@ -54,7 +54,7 @@ impl Hash for Find {
     fn hash<H: Hasher>(&self, state: &mut H) {
         self.cols.as_slice().hash(state);
         self.test.hash(state);
-        self.order.keys().hash(state);
+        self.order.hash(state);
         self.after.hash(state);
     }
 }

@@ -1,5 +1,5 @@
 -- How two lists of cells compare from a place on.
-use Rattle.std.proofs.Common.{◌≡◌, ◌<◌, ◌≤◌, ◌+◌, ℕ, zero, suc, List, [], ◌∷◌, Bool, true, false, refl, sym, ◌∙◌, length, min, nat_lt, drop, get_or, add-one, arith}
+use Rattle.std.proofs.Common.{◌≡◌, ◌<◌, ◌≤◌, ◌+◌, ℕ, zero, suc, List, [], ◌∷◌, Bool, true, false, refl, sym, ap, ◌∙◌, length, min, nat_lt, drop, get_or, add-one, arith}
 use Rattle.std.proofs.lemmas.Bool.{ltb-false, ltb-true, true≢false}
 use Rattle.std.proofs.lemmas.Bool.Decides.{nat_tests}
 use Rattle.std.proofs.lemmas.List.{length-drop, nil_from_length}
@@ -10,8 +10,16 @@ use Rattle.std.specs.declared.cmp.Ordering.TheVariants.{Less, Equal, Greater}
 use Rattle.hv_value.specs.declared.cell.Cell.{Cell}
 use Rattle.hv_value.specs.declared.orders.OrderKey.{OrderKey}
 use Rattle.hv_value.specs.Order.{compare_cells}
-use Rattle.hv_value.specs.Orders.{compare_by, compare_keys}
+use Rattle.hv_value.specs.Orders.{compare_by, compare_keys, key_of}
+use Rattle.hv_value.specs.Rows.{Row}
 use Rattle.hv_next.specs.KeyPlaces.{compare_at}
+use Rattle.hv_next.specs.Next.{compare_rows, one_row}
+use Rattle.hv_next.specs.declared.summary.NextRow.{NextRow}
+
+-- a row's key compares with one of a list as with that one's cells
+pub as_cells : (keys : List OrderKey) (found : Row) (kept listed : NextRow) (cells : List Cell) (o : Ordering) → kept ≡ listed → cells ≡ listed.key
+    → o ≡ compare_keys keys (key_of keys found) cells → compare_rows keys (one_row keys found) kept ≡ o
+as_cells keys found kept listed cells o is of e = ap (compare_rows keys (one_row keys found)) is ∙ ap (compare_keys keys (key_of keys found)) (sym of) ∙ sym e
 
 -- past the last key cells compare as cells
 pub at_none : (keys : List OrderKey) (place : ℕ) (x y : Cell) → length keys ≤ place → compare_at keys place x y ≡ compare_cells x y

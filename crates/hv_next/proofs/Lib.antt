@@ -1,3 +1,4 @@
+pub mod EachKey
 pub mod FitFacts
 pub mod KeyFacts
 pub mod NextFacts

@@ -1,25 +1,30 @@
 -- The next rows of one row more, and what holds of their keys.
-use Rattle.std.proofs.Common.{◌≡◌, ◌<◌, ◌≤◌, ◌+◌, ◌++◌, ◌^◌, ℕ, zero, suc, List, [], ◌∷◌, true, false, Option, refl, sym, ap, length, get_or, take, arith, ◌∙◌}
+use Rattle.std.proofs.Common.{◌≡◌, ◌<◌, ◌≤◌, ◌+◌, ◌-◌, ◌++◌, ◌^◌, ℕ, zero, suc, List, [], ◌∷◌, true, false, Option, None, Some, refl, sym, ap, length, get_or, take, arith, ◌∙◌}
 use Rattle.std.specs.Prelude.{map, not, filter, count_by}
-use Rattle.std.specs.List.{All, AllByRecursion, Contains}
-use Rattle.std.specs.Ordering.{match_ordering}
+use Rattle.std.specs.List.{All, Contains}
+use Rattle.std.specs.Ordering.{is_gt, match_ordering}
 use Rattle.std.specs.declared.cmp.Ordering.{Ordering}
 use Rattle.std.specs.declared.cmp.Ordering.TheVariants.{Less, Equal, Greater}
 use Rattle.std.proofs.lemmas.List.{length-append, length-map, length-take}
+use Rattle.std.proofs.lemmas.List.Elements.{All-map, filter_passes}
 use Rattle.std.proofs.lemmas.List.Sums.{count_by-le-length, length-filter}
 use Rattle.hv_value.specs.declared.cell.Cell.{Cell}
 use Rattle.hv_value.specs.declared.orders.OrderKey.{OrderKey}
+use Rattle.hv_value.specs.OrderLaws.{keys_total}
+use Rattle.hv_value.specs.Orders.{compare_keys, key_of}
 use Rattle.hv_value.specs.Rows.{Row}
 use Rattle.hv_sketch.specs.Merging.{CanMerge}
 use Rattle.hv_sketch.specs.Rising.{IsRising, put, rising}
 use Rattle.hv_sketch.proofs.Least.{rising-more, rising-rises, take-put, take-rises}
-use Rattle.hv_next.specs.AddKey.{AreKept, with_key}
+use Rattle.hv_next.specs.AddKey.{AreKept, IsPast, with_key}
 use Rattle.hv_next.specs.KeyOrder.{added_joins, rows_total}
 use Rattle.hv_next.specs.Next.{IsNext, added, compare_rows, counted_keys, is_above, keys_above, one_row}
 use Rattle.hv_next.specs.NextLaws.{before-append, keys-append, next_of-append, same}
 use Rattle.hv_next.specs.NextSums.{CanAdd, next_sum}
 use Rattle.hv_next.specs.declared.summary.NextRow.{NextRow}
 use Rattle.hv_next.specs.declared.summary.NextSummary.{NextSummary}
+use Rattle.hv_next.proofs.EachKey.{each-least}
+use Rattle.hv_next.proofs.PlaceFacts.{above-above, is-greater, put-out}
 
 -- how many rows keys have in all
 abbrev total : List NextRow → ℕ
@@ -56,32 +61,12 @@ module _ (keys : List OrderKey) where
   one-of-total (x ∷ xs) zero d within = omega arith
   one-of-total (x ∷ xs) (suc i) d within = omega (arith, one-of-total xs i d (omega (arith, within)))
 
-  abbrev Fits : NextRow → Type 0
-  Fits row = length row.key ≡ length keys
-
-  fits-put : (x : NextRow) (ys : List NextRow) → Fits x → AllByRecursion Fits ys → AllByRecursion Fits (put (compare_rows keys) added x ys)
-  fits-put x [] one all = (one, tt)
-  fits-put x (y ∷ ys) one all = by (compare_rows keys x y) (fits-put x ys one all.1)
-    where
-      by : (o : Ordering) → AllByRecursion Fits (put (compare_rows keys) added x ys)
-          → AllByRecursion Fits (match_ordering o (x ∷ y ∷ ys) (added x y ∷ ys) (y ∷ put (compare_rows keys) added x ys))
-      by Less more = (one, all)
-      by Equal more = (all.0, all.1)
-      by Greater more = (all.0, more)
-
-  fits-rising : (rows : List Row) → AllByRecursion Fits (rising (compare_rows keys) added (map (one_row keys) rows))
-  fits-rising [] = tt
-  fits-rising (row ∷ rows) = fits-put (one_row keys row) _ (length-map keys _) (fits-rising rows)
-
-  fits-take : (k : ℕ) (xs : List NextRow) → AllByRecursion Fits xs → AllByRecursion Fits (take k xs)
-  fits-take zero xs all = tt
-  fits-take (suc k) [] all = tt
-  fits-take (suc k) (x ∷ xs) all = (all.0, fits-take k xs all.1)
-
-  fits-at : (xs : List NextRow) → AllByRecursion Fits xs → All Fits xs
-  fits-at [] all i d within = absurd (omega (arith, within))
-  fits-at (x ∷ xs) all zero d within = all.0
-  fits-at (x ∷ xs) all (suc i) d within = fits-at xs all.1 i d (omega (arith, within))
+-- a row whose key is above that of a row above is above
+later-above : (keys : List OrderKey) (after : Option (List Cell)) (row found : Row) → is_above keys after row ≡ true
+    → compare_keys keys (key_of keys found) (key_of keys row) ≡ Greater → is_above keys after found ≡ true
+later-above keys None row found above later = refl
+later-above keys (Some key) row found above later =
+    ap is_gt (above-above (compare_keys keys) (keys_total keys) (key_of keys found) (key_of keys row) key later (is-greater _ above))
 
 module _ (keys : List OrderKey) (after : Option (List Cell)) (k : ℕ) where
   module _ (rows : List Row) (s : NextSummary) (h : IsNext keys after k rows s) where
@@ -111,11 +96,22 @@ module _ (keys : List OrderKey) (after : Option (List Cell)) (k : ℕ) where
     next-before =
         omega (arith, ap (λ (t : NextSummary). t.before) h.is, count_by-le-length (λ row. not (is_above keys after row)) rows, h.few)
 
+    -- what holds of the key of each row above holds of each
+    next-each : (P : List Cell → Type 0) → All (λ row. P (key_of keys row)) (filter (is_above keys after) rows)
+        → All (λ (kept : NextRow). P kept.key) s.rows
+    next-each P all = rw h.is (each-least keys P k (keys_above keys after rows) (All-map (λ (kept : NextRow). P kept.key) (one_row keys) _ all))
+
+    -- a row whose key is above one of them is above
+    next-later : All (λ kept. (found : Row) → compare_rows keys (one_row keys found) kept ≡ Greater → is_above keys after found ≡ true) s.rows
+    next-later =
+        next-each (λ key. (found : Row) → compare_keys keys (key_of keys found) key ≡ Greater → is_above keys after found ≡ true)
+        (λ i d within found. later-above keys after (get_or (filter (is_above keys after) rows) i d) found (filter_passes (is_above keys after) rows i d within))
+
     pub next-kept : AreKept keys k s.rows
     next-kept =
         record {
           rising = next-rises;
-          one_each = rw h.is (fits-at keys (take k (counted_keys keys after rows)) (fits-take keys k (counted_keys keys after rows) (fits-rising keys (filter (is_above keys after) rows))));
+          one_each = next-each (λ key. length key ≡ length keys) (λ i d within. length-map keys _);
           few = omega (arith, ap (λ (t : NextSummary). length t.rows) h.is, length-take k (counted_keys keys after rows));
           room = λ i d within. omega (arith, next-count i d within);
         }
@@ -175,3 +171,13 @@ module _ (keys : List OrderKey) (after : Option (List Cell)) (k : ℕ) where
               ∙ ap (take k) (sym (rising-more (compare_rows keys) added (rows_total keys) (added_joins keys) old (one_row keys row)))
               ∙ ap (λ l. take k (rising (compare_rows keys) added l)) (sym (keys-append keys after rows (row ∷ []) ∙ ap (λ l. old ++ l) one)));
         }
+
+    -- and one whose key is above all of as many as are kept
+    pub next-past : IsPast keys k (one_row keys row) s.rows → IsNext keys after k (rows ++ row ∷ []) s
+    next-past past =
+        let mine = one_row keys row in
+        let last = length s.rows - 1 in
+        let within : last < length s.rows = omega (arith, past.some) in
+        let late = past.above last mine within in
+        next-above s.rows (next-later rows s h last mine within row late)
+        (sym (put-out (compare_rows keys) (rows_total keys) added mine s.rows (next-rises rows s h) k last mine past.full (omega (arith, past.some)) late))

@@ -1,7 +1,7 @@
 -- A binary search in a rising list: what each of its steps tells of the place for an element.
 use Rattle.std.proofs.Common.{◌≡◌, ◌<◌, ◌≤◌, ◌+◌, ℕ, zero, suc, List, [], ◌∷◌, true, refl, sym, ap, length, get_or, set, take, arith, ◌∙◌}
 use Rattle.std.specs.Cmp.{IsTotalOrder}
-use Rattle.std.specs.List.{insert}
+use Rattle.std.specs.List.{All, insert}
 use Rattle.std.specs.Ordering.{is_gt, ordering_reverse}
 use Rattle.std.specs.declared.cmp.Ordering.{Ordering}
 use Rattle.std.specs.declared.cmp.Ordering.TheVariants.{Less, Equal, Greater}
@@ -37,6 +37,10 @@ module _ {X : Type 0} (cmp : X → X → Ordering) (order : IsTotalOrder cmp) wh
   back-greater : (x y : X) → cmp x y ≡ Greater → cmp y x ≡ Less
   back-greater x y e = order.antisymm y x ∙ ap ordering_reverse e
 
+  -- above one that is above another is above that too
+  pub above-above : (x y z : X) → cmp x y ≡ Greater → cmp y z ≡ Greater → cmp x z ≡ Greater
+  above-above x y z e f = back-less z x (order.trans z y x (back-greater y z f) (back-greater x y e))
+
   -- the first of a rising list is below each other
   first-low : (y : X) (ys : List X) (i : ℕ) (d : X) → IsAbove cmp y ys → IsRising cmp ys → i < length ys → cmp y (get_or ys i d) ≡ Less
   first-low y [] i d above rises within = absurd (omega (arith, within))
@@ -66,6 +70,13 @@ module _ {X : Type 0} (cmp : X → X → Ordering) (order : IsTotalOrder cmp) wh
   below-to x (y ∷ ys) (suc m) e rises there greater (suc k) d lt =
       below-to x ys m e rises.1 (omega (arith, there)) greater k d (omega (arith, lt))
 
+  -- one above the last is above all
+  pub above-last : (x : X) (xs : List X) (last : ℕ) (y e : X) → IsRising cmp xs → y ≡ get_or xs last e → length xs ≡ last + 1
+      → cmp x y ≡ Greater → All (λ z. cmp x z ≡ Greater) xs
+  above-last x xs last y e rises is many greater i d within =
+      back-less (get_or xs i d) x
+      (below-to x xs last e rises (omega (arith, many)) (sym (ap (cmp x) is) ∙ greater) i d (omega (arith, many, within)))
+
   module _ (x : X) (xs : List X) (low high : ℕ) (rises : IsRising cmp xs) where
     pub between-start : IsBetween cmp x xs 0 (length xs)
     between-start = record { before = λ k d lt. absurd (omega (arith, lt)); behind = λ k d le lt. absurd (omega (arith, le, lt)) }
@@ -91,8 +102,8 @@ module _ {X : Type 0} (cmp : X → X → Ordering) (order : IsTotalOrder cmp) wh
         (sym (ap (λ z. cmp z x) (is ∙ get-any xs m e x there)) ∙ tied_back order x y tie)
 
     -- an element above the last is left out where only as many are kept
-    pub put-out : (k last : ℕ) (y e : X) → y ≡ get_or xs last e → length xs ≡ k → length xs ≡ last + 1 → cmp x y ≡ Greater
+    pub put-out : (k last : ℕ) (e : X) → length xs ≡ k → length xs ≡ last + 1 → cmp x (get_or xs last e) ≡ Greater
         → take k (put cmp join x xs) ≡ xs
-    put-out k last y e is few many greater =
-        ap (take k) (put-last cmp join order x e xs last rises many (back-greater x (get_or xs last e) (sym (ap (cmp x) is) ∙ greater)))
+    put-out k last e few many greater =
+        ap (take k) (put-last cmp join order x e xs last rises many (back-greater x (get_or xs last e) greater))
         ∙ ap (λ n. take n (insert xs (length xs) x)) (sym few) ∙ take-past x xs

@@ -1,6 +1,7 @@
 -- A row's key put to those that are kept.
 use Rattle.std.specs.Prelude.{◌≡◌, ◌≤◌, ◌<◌, ◌+◌, ◌^◌, ℕ, List, Result, Ok, Err, length, get_or, slice_set}
 use Rattle.std.specs.List.{All, insert}
+use Rattle.std.specs.declared.cmp.Ordering.TheVariants.{Greater}
 use Rattle.hv_value.specs.declared.orders.OrderKey.{OrderKey}
 use Rattle.hv_sketch.specs.Rising.{IsRising, put}
 use Rattle.hv_next.specs.Next.{added, compare_rows}
@@ -12,6 +13,12 @@ pub record AreKept (keys : List OrderKey) (k : ℕ) (rows : List NextRow) : Type
   pub one_each : All (λ row. length row.key ≡ length keys) rows
   pub few : length rows ≤ k
   pub room : All (λ row. row.count + 1 < 2 ^ 64) rows
+
+-- there are k keys, at least one, and another is above each of them
+pub record IsPast (keys : List OrderKey) (k : ℕ) (row : NextRow) (rows : List NextRow) : Type 0 where
+  pub full : length rows ≡ k
+  pub some : 0 < length rows
+  pub above : All (λ kept. compare_rows keys row kept ≡ Greater) rows
 
 -- the keys with one more
 abbrev pub with_key : List OrderKey → NextRow → List NextRow → List NextRow

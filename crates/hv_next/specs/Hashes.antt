@@ -1,22 +1,9 @@
--- What the hashes of orders, of keys and of views of next rows write: functions of the value, so that the same ones write the same.
+-- What the hashes of keys and of views of next rows write: functions of the value, so that the same ones write the same.
 use Rattle.std.specs.Prelude.{◌++◌, List, Option}
 use Rattle.std.specs.Hash as fed
 use Rattle.hv_value.specs.declared.cell.Cell.{Cell}
-use Rattle.hv_value.specs.declared.orders.OrderKey.{OrderKey}
-use Rattle.hv_value.specs.Order.{order_bytes, order_number}
+use Rattle.hv_value.specs.Hashes.{cell_writes, order_writes}
 use Rattle.hv_next.specs.declared.next_rows.NextRows.{NextRows}
-
--- of a cell its number and its bytes
-abbrev pub cell_writes : Cell → fed.HashWrites
-cell_writes c = fed.i64 (order_number c) ++ fed.str (order_bytes c)
-
--- of a column of an order its place and its direction
-abbrev pub column_writes : OrderKey → fed.HashWrites
-column_writes key = fed.u32 key.col ++ fed.bool key.down
-
--- of an order its columns
-abbrev pub order_writes : List OrderKey → fed.HashWrites
-order_writes keys = fed.slice column_writes keys
 
 -- of the key above which rows are whether it is there, and its cells
 abbrev pub after_writes : Option (List Cell) → fed.HashWrites

@@ -10,6 +10,7 @@ ghost use Rattle.hv_sketch.specs.Columns.{kind_at};
 ghost use Rattle.hv_next.specs.Fits.{FitsNext, IsKeyOf, are_of_keys, is_of_column};
 ghost use Rattle.hv_next.specs.Next.{is_above};
 
+use hv_sketch::copied_cells;
 use hv_value::{Cell, Kind, Listed, Mem, Order, OrderKey, Schema, Table};
 use std::alloc::Global;
 
@@ -22,6 +23,7 @@ pub fn fits_keys(schema: &Schema, order: &Order, after: &Option<Listed<Cell>>) -
 }
 
 /// Whether the key of a row that is there is above another; each is where there is no other.
+#[inline(always)]
 pub fn is_above<T: Table>(order: &Order, after: &Option<Listed<Cell>>, table: &T, row: u32) -> bool
     requires fit { FitsNext order.now after.now (T.columns table.now) }
     requires row_there { option_map (λ found. found.number) (row_from row (T.rows table.now)) ≡ Some row }
@@ -52,17 +54,6 @@ pub fn copied_key(alloc: Global, key: &Option<Listed<Cell>>) -> Mem<Option<Liste
         Some(key) => Ok(Some(copied_cells(alloc, key.as_slice())?)),
         None => Ok(None),
     }
-}
-
-/// Copies of cells, as a list.
-pub(crate) fn copied_cells(alloc: Global, cells: &[Cell]) -> Mem<Listed<Cell>>
-    ensures { IfOk result (λ copy. copy ≡ cells.now) }
-{
-    let mut copy = Listed::new(alloc);
-    for cell in cells {
-        copy.push(Cell::of(alloc, cell.lent())?)?;
-    }
-    Ok(copy)
 }
 
 /// The cells of a row that is there in the columns of keys.

@@ -6,7 +6,7 @@ ghost use Rattle.hv_sketch.specs.Rising.{IsRising, put_all};
 ghost use Rattle.hv_next.specs.Next.{added, compare_rows};
 ghost use Rattle.hv_next.specs.NextSums.{CanAdd};
 
-use crate::add_key::add_key;
+use crate::add_key::{add_key, is_past};
 use crate::key_ranking::KeyRanking;
 use crate::{CountedKeys, NextRow, NextSummary, copied_key, fits_keys, is_above};
 use hv_sketch::{Gather, Vizketch, gather_rows, joined};
@@ -63,6 +63,7 @@ impl Gather for NextRows {
         Ok(NextSummary::empty(alloc))
     }
 
+    #[inline(always)]
     fn add_row<T: Table>(
         &self,
         alloc: Global,
@@ -70,6 +71,10 @@ impl Gather for NextRows {
         table: &T,
         row: u32,
     ) -> Mem<()> {
+        // a key above all that are kept is above `after` too, as they are
+        if is_past(kept.rows.as_slice(), &self.order, self.k, table, row) {
+            return Ok(());
+        }
         if is_above(&self.order, &self.after, table, row) {
             return add_key(alloc, &mut kept.rows, &self.order, self.k, table, row);
         }

@@ -74,7 +74,7 @@ impl Hash for NextRows {
     ghost respects_eq = { λ x y e. ap next_writes ((same_by-decides row.the_row.coded x y).0 e) };
 
     fn hash<H: Hasher>(&self, state: &mut H) {
-        self.order.keys().hash(state);
+        self.order.hash(state);
         self.after.hash(state);
         self.k.hash(state);
     }

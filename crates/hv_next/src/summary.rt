@@ -6,7 +6,7 @@ ghost use Rattle.std.specs.List.{All, insert};
 ghost use Rattle.hv_next.specs.Next.{added};
 ghost use Rattle.hv_next.specs.declared.summary.NextRow.{NextRow};
 
-use crate::keys::copied_cells;
+use hv_sketch::copied_cells;
 use hv_value::{Cell, Listed, Mem};
 use std::alloc::Global;
 use std::marker::Model;

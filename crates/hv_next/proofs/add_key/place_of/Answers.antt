@@ -1,7 +1,7 @@
-use Rattle.std.proofs.Common.{ap, sym, ◌∙◌, arith}
-use Rattle.hv_value.specs.Orders.{compare_keys, key_of}
+use Rattle.std.proofs.Common.{◌∙◌, arith}
 use Rattle.hv_next.specs.KeyOrder.{rows_total}
 use Rattle.hv_next.specs.Next.{added, compare_rows, one_row}
+use Rattle.hv_next.proofs.KeyFacts.{as_cells}
 use Rattle.hv_next.proofs.PlaceFacts.{between-end, between-higher, between-lower, tied-at}
 use Rattle.hv_next.proofs.add_key.place_of.Goals as goal
 
@@ -14,7 +14,7 @@ loop-low-preserved-in-Less g c =
       parted = λ found there.
           between-lower (compare_rows keys) (rows_total keys) (one_row keys found) c.args.rows.now _ _ c.requires.kept.rising
           _ c.index-rows-middle.result _ c.index-rows-middle.is (omega (arith, c.loop-low.invariant.within))
-          (ap (compare_rows keys (one_row keys found)) c.index-rows-middle.is ∙ ap (compare_keys keys (key_of keys found)) (sym c.as_slice.ensures) ∙ sym (c.compare_row.ensures found there) ∙ c.in-Less.is)
+          (as_cells keys found _ _ _ _ c.index-rows-middle.is c.as_slice.ensures (c.compare_row.ensures found there) ∙ c.in-Less.is)
           (c.loop-low.invariant.parted found there);
     }
 
@@ -23,7 +23,7 @@ returns-in-Equal-clause-value g c = λ found there.
     let keys = c.args.order.now in
     tied-at (compare_rows keys) (rows_total keys) added (one_row keys found) c.args.rows.now c.requires.kept.rising
     _ c.index-rows-middle.result _ c.index-rows-middle.is (omega (arith, c.loop-low.invariant.within))
-    (ap (compare_rows keys (one_row keys found)) c.index-rows-middle.is ∙ ap (compare_keys keys (key_of keys found)) (sym c.as_slice.ensures) ∙ sym (c.compare_row.ensures found there) ∙ c.in-Equal.is)
+    (as_cells keys found _ _ _ _ c.index-rows-middle.is c.as_slice.ensures (c.compare_row.ensures found there) ∙ c.in-Equal.is)
 
 pub loop-low-preserved : goal.loop-low-preserved
 loop-low-preserved g c =
@@ -34,7 +34,7 @@ loop-low-preserved g c =
       parted = λ found there.
           between-higher (compare_rows keys) (rows_total keys) (one_row keys found) c.args.rows.now _ _ c.requires.kept.rising
           _ c.index-rows-middle.result _ c.index-rows-middle.is (omega (arith, c.loop-low.invariant.within))
-          (ap (compare_rows keys (one_row keys found)) c.index-rows-middle.is ∙ ap (compare_keys keys (key_of keys found)) (sym c.as_slice.ensures) ∙ sym (c.compare_row.ensures found there) ∙ c.in-Greater.is)
+          (as_cells keys found _ _ _ _ c.index-rows-middle.is c.as_slice.ensures (c.compare_row.ensures found there) ∙ c.in-Greater.is)
           (c.loop-low.invariant.parted found there);
     }
 

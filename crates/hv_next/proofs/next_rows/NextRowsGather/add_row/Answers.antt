@@ -5,8 +5,19 @@ use Rattle.hv_value.specs.Table.{row_from}
 use Rattle.hv_sketch.specs.Gathering.{ComesNext}
 use Rattle.hv_next.specs.AddKey.{with_key}
 use Rattle.hv_next.specs.Next.{IsNext, one_row}
-use Rattle.hv_next.proofs.NextFacts.{next-above, next-below, next-kept}
+use Rattle.hv_next.proofs.NextFacts.{next-above, next-below, next-kept, next-past}
 use Rattle.hv_next.proofs.next_rows.NextRowsGather.add_row.Goals as goal
+
+pub is_past-requires-clause-kept : goal.is_past-requires-clause-kept
+is_past-requires-clause-kept g c =
+    let view = c.args.self.now in
+    rw c.as_slice.ensures (next-kept view.order view.after view.k c.requires.kept_so_far.0 _ c.requires.kept_so_far.3)
+
+pub returns-then-is_past : goal.returns-then-is_past
+returns-then-is_past g c = λ rows found there so_far can.
+    let view = c.args.self.now in
+    next-past view.order view.after view.k rows found _ so_far can.merge
+    (rw c.as_slice.ensures at c.is_past.ensures c.if-is_past.true found there)
 
 pub add_key-requires-clause-kept : goal.add_key-requires-clause-kept
 add_key-requires-clause-kept g c =
