@@ -5,3 +5,5 @@ pub mod HeavyFacts
 pub mod Lowering
 pub mod Near
 pub mod PairJoins
+pub mod PlaceFacts
+pub mod SlotCounts

@@ -1,11 +1,11 @@
-//! Heavy hitters of one partition and of two. Expected values are worked by hand.
+//! Heavy hitters, and counts of some values, of one partition and of two. Expected values are worked by hand.
 
 ghost use Rattle.std.specs.Prelude.{◌≡◌, [], ◌∷◌, codes, IfOk};
 ghost use Rattle.hv_value.specs.Cells.{cell_lent};
 ghost use Rattle.hv_value.specs.Rows.{int_cell};
 ghost use Rattle.hv_value.specs.declared.cell.Kind.TheVariants as kind;
 
-use crate::{HeavySummary, MisraGries, frequent_values_stay};
+use crate::{CountOf, CountShown, HeavySummary, MisraGries, frequent_values_stay};
 use hv_sketch::{Vizketch, add_part, order_is_free};
 use hv_value::{Cell, CellRef, Kind, Schema, Table, Text};
 use std::alloc::Global;
@@ -135,5 +135,24 @@ fn missing_cells_are_no_values(rt: HostRuntime) -> Result<(), Fail> {
     let high = two_rows(rt.alloc(), 1, None, None)?;
     let found = of_both(rt.alloc(), &MisraGries::new(0, 1), &low, &high)?;
     assert!(rt; is(&found, 1, 3, &[(7, 1)]));
+    Ok(())
+}
+
+/// Whether the counts are these, in order, and as many cells are missing and aren't.
+fn shows(found: &CountShown, counts: &[u64], missing: u64, n: u64) -> bool {
+    found.counts.as_slice() == counts && found.missing == missing && found.n == n
+}
+
+#[test]
+fn equal_values_have_equal_counts(rt: HostRuntime) -> Result<(), Fail> {
+    let low = two_rows(rt.alloc(), 0, Some(5), None)?;
+    let high = two_rows(rt.alloc(), 1, Some(5), Some(7))?;
+    let values = vec![in rt.alloc(); Cell::Int(5), Cell::Int(9), Cell::Int(5)]?;
+    let view = CountOf::new(0, values);
+    let again = view.copied(rt.alloc())?;
+    assert!(rt; again == view);
+    let found = of_both(rt.alloc(), &view, &low, &high)?;
+    let shown = view.value(rt.alloc(), &found)?.copied(rt.alloc())?;
+    assert!(rt; shows(&shown, [2, 0, 2].as_slice(), 1, 3));
     Ok(())
 }
