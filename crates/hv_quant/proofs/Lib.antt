@@ -1,0 +1,2 @@
+pub mod QuantileFacts
+pub mod SampleFacts
