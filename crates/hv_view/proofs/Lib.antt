@@ -1,1 +1,4 @@
+mod AutoFacts
+mod FrequentFacts
+mod PlanFacts
 mod TrellisLemmas

@@ -2,6 +2,7 @@
 use Rattle.std.proofs.Common.{ℕ, List, ◌++◌, ◌∙◌}
 use Rattle.hv_value.specs.Rows.{Row}
 use Rattle.hv_find.specs.FindLaws.{IsFound-swap}
+use Rattle.hv_heavy.specs.HeavyLaws.{IsHeavy-swap}
 use Rattle.hv_next.specs.NextLaws.{IsNext-swap}
 use Rattle.hv_range.specs.DistinctLaws.{distinct_of-swap}
 use Rattle.hv_range.specs.RangeLaws.{IsRange-swap}
@@ -36,4 +37,6 @@ StandsForAny-swap (view.TrellisHistogram trellis) a b c (summary.TrellisHistogra
 StandsForAny-swap (view.TrellisHeatMap trellis) a b c (summary.TrellisHeatMap s) h = groups-swap trellis.groups _ _ a b c s h
 StandsForAny-swap (view.NextRows next) a b c (summary.NextRows s) h = IsNext-swap next.order next.after next.k a b c s h
 StandsForAny-swap (view.Find find) a b c (summary.Find s) h = IsFound-swap find a b c s h
+StandsForAny-swap (view.Heavy heavy) a b c (summary.Heavy s) h = IsHeavy-swap heavy.col heavy.k a b c s h
+StandsForAny-swap (view.CountOf count) a b c (summary.CountOf s) h = IsTally-swap _ _ a b c s h
 StandsForAny-swap _ a b c _ h = h

@@ -1,4 +1,6 @@
 pub mod AnyLaws
+pub mod Auto
+pub mod Frequent
 pub mod Keys
 pub mod Plans
 pub mod Stands

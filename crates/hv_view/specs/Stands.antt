@@ -9,6 +9,8 @@ use Rattle.hv_grid.specs.declared.by_axis.ByAxis.{ByAxis}
 use Rattle.hv_grid.specs.declared.heat_map.HeatMap.{HeatMap}
 use Rattle.hv_grid.specs.Grids.{bucket_in}
 use Rattle.hv_grid.specs.Slots.{IsHeatMapCounted, IsStackedCounted}
+use Rattle.hv_heavy.specs.CountOf.{IsCount, fits_count}
+use Rattle.hv_heavy.specs.Heavy.{IsHeavy}
 use Rattle.hv_hist.specs.Slots.{IsCounted}
 use Rattle.hv_next.specs.Fits.{FitsNext}
 use Rattle.hv_next.specs.Next.{IsNext}
@@ -37,6 +39,8 @@ FitsAny (view.TrellisHistogram trellis) columns = (fits_axis columns trellis.gro
 FitsAny (view.TrellisHeatMap trellis) columns = (fits_axis columns trellis.groups.0 ≡ true) × FitsHeatMap columns trellis.inner
 FitsAny (view.NextRows next) columns = FitsNext next.order next.after columns
 FitsAny (view.Find find) columns = FitsFind find columns
+FitsAny (view.Heavy heavy) columns = heavy.col < length columns
+FitsAny (view.CountOf count) columns = fits_count columns count.col count.values ≡ true
 
 -- merging the view's summaries takes no memory
 abbrev pub MergesAlways : AnyView → Type 0
@@ -50,6 +54,8 @@ MergesAlways (view.TrellisHistogram trellis) = ⊥
 MergesAlways (view.TrellisHeatMap trellis) = ⊥
 MergesAlways (view.NextRows next) = ⊥
 MergesAlways (view.Find find) = ⊥
+MergesAlways (view.Heavy heavy) = ⊥
+MergesAlways (view.CountOf count) = ⊤
 
 -- the summaries stand for the rows of the groups of an axis, and the rest is how many rows are in none
 abbrev pub ForEachGroup : {S : Type 0} → ByAxis → (List Row → S → Type 0) → List Row → List S × ℕ → Type 0
@@ -67,4 +73,6 @@ StandsForAny (view.TrellisHistogram trellis) rows (summary.TrellisHistogram s) =
 StandsForAny (view.TrellisHeatMap trellis) rows (summary.TrellisHeatMap s) = ForEachGroup trellis.groups (IsHeatMapCounted trellis.inner.x trellis.inner.y) rows s
 StandsForAny (view.NextRows next) rows (summary.NextRows s) = IsNext next.order next.after next.k rows s
 StandsForAny (view.Find find) rows (summary.Find s) = IsFound find rows s
+StandsForAny (view.Heavy heavy) rows (summary.Heavy s) = IsHeavy heavy.col heavy.k rows s
+StandsForAny (view.CountOf count) rows (summary.CountOf s) = IsCount count.col count.values rows s
 StandsForAny _ rows _ = ⊥

@@ -9,6 +9,8 @@ use Rattle.hv_find.specs.Find.{find_of}
 use Rattle.hv_grid.specs.declared.by_axis.ByAxis.{ByAxis}
 use Rattle.hv_grid.specs.Grids.{bucket_in, heat_map_of, stacked_of}
 use Rattle.hv_sketch.specs.Groups.{group_rows, ungrouped}
+use Rattle.hv_heavy.specs.CountOf.{counts_of}
+use Rattle.hv_heavy.specs.Heavy.{IsHeavy}
 use Rattle.hv_hist.specs.Histogram.{cdf_of, histogram_of}
 use Rattle.hv_next.specs.Next.{next_of}
 use Rattle.hv_range.specs.Distinct.{distinct_of}
@@ -46,6 +48,11 @@ of_each_bucket by value rows = of_each_group (bucket_in by.0) (buckets_len by.0.
 abbrev pub in_no_bucket : ByAxis → List Row → ℕ
 in_no_bucket by rows = ungrouped (bucket_in by.0) rows
 
+-- the value is heavy hitters of the column over the rows: a relation, since many lists of them keep the bounds
+abbrev pub AreHeavyHitters : ℕ → ℕ → List Row → Shown → Type 0
+AreHeavyHitters col k rows (shown.Heavy found) = IsHeavy col k rows found
+AreHeavyHitters col k rows _ = ⊥
+
 -- the value is the view's over the rows
 abbrev pub IsView : AnyView → List Row → Shown → Type 0
 IsView (view.Range range) rows value = value ≡ range_shown range.kind (range_of range.col rows)
@@ -58,3 +65,5 @@ IsView (view.TrellisHistogram trellis) rows value = value ≡ shown.TrellisHisto
 IsView (view.TrellisHeatMap trellis) rows value = value ≡ shown.TrellisHeatMap (of_each_bucket trellis.groups (heat_map_of trellis.inner.x trellis.inner.y) rows) (in_no_bucket trellis.groups rows)
 IsView (view.NextRows next) rows value = value ≡ shown.NextRows (next_of next.order next.after next.k rows)
 IsView (view.Find find) rows value = value ≡ shown.Find (find_of find rows)
+IsView (view.Heavy heavy) rows value = AreHeavyHitters heavy.col heavy.k rows value
+IsView (view.CountOf count) rows value = value ≡ shown.CountOf (counts_of count.col count.values rows)

@@ -1,6 +1,7 @@
 //! The summary of any view. What one stands for is `StandsForAny` (specs/Stands.antt).
 
 use hv_find::FindSummary;
+use hv_heavy::HeavySummary;
 use hv_next::NextSummary;
 use hv_range::{DistinctSummary, RangeSummary};
 use hv_sketch::{Counts, GroupedSummary};
@@ -22,4 +23,7 @@ pub enum AnySummary {
     TrellisHeatMap(GroupedSummary<Counts>),
     NextRows(NextSummary),
     Find(FindSummary),
+    Heavy(HeavySummary),
+    /// The counts of the rows whose cell is each of some values, none of them, or missing.
+    CountOf(Counts),
 }

@@ -10,6 +10,7 @@ ghost use Rattle.hv_view.specs.Keys.{view_writes};
 use crate::AnySummary;
 use hv_find::Find;
 use hv_grid::{HeatMap, Stacked, Trellis};
+use hv_heavy::{CountOf, MisraGries};
 use hv_hist::{Cdf, Histogram};
 use hv_next::NextRows;
 use hv_range::{Distinct, Range};
@@ -31,6 +32,8 @@ pub enum AnyView {
     TrellisHeatMap(Trellis<HeatMap>),
     NextRows(NextRows),
     Find(Find),
+    Heavy(MisraGries),
+    CountOf(CountOf),
 }
 
 impl AnyView {
@@ -55,6 +58,8 @@ impl AnyView {
             )),
             AnyView::NextRows(view) => AnyView::NextRows(view.copied(alloc)?),
             AnyView::Find(view) => AnyView::Find(view.copied(alloc)?),
+            AnyView::Heavy(view) => AnyView::Heavy(*view),
+            AnyView::CountOf(view) => AnyView::CountOf(view.copied(alloc)?),
         })
     }
 
@@ -77,6 +82,8 @@ impl AnyView {
             }
             (AnyView::NextRows(view), AnyView::NextRows(other)) => view.same(other),
             (AnyView::Find(view), AnyView::Find(other)) => view.same(other),
+            (AnyView::Heavy(view), AnyView::Heavy(other)) => view == other,
+            (AnyView::CountOf(view), AnyView::CountOf(other)) => view.same(other),
             _ => false,
         }
     }
@@ -157,6 +164,15 @@ impl Hash for AnyView {
                 state.write_u8(9);
                 view.hash(state);
             }
+            AnyView::Heavy(view) => {
+                state.write_u8(10);
+                state.write_u32(view.col);
+                state.write_u32(view.k);
+            }
+            AnyView::CountOf(view) => {
+                state.write_u8(11);
+                view.hash(state);
+            }
         }
     }
 }
@@ -185,6 +201,8 @@ impl Vizketch for AnyView {
             AnyView::TrellisHeatMap(view) => view.fits(schema),
             AnyView::NextRows(view) => view.fits(schema),
             AnyView::Find(view) => view.fits(schema),
+            AnyView::Heavy(view) => view.fits(schema),
+            AnyView::CountOf(view) => view.fits(schema),
         }
     }
 
@@ -201,6 +219,8 @@ impl Vizketch for AnyView {
             AnyView::TrellisHeatMap(view) => AnySummary::TrellisHeatMap(view.zero(alloc)?),
             AnyView::NextRows(view) => AnySummary::NextRows(view.zero(alloc)?),
             AnyView::Find(view) => AnySummary::Find(view.zero(alloc)?),
+            AnyView::Heavy(view) => AnySummary::Heavy(view.zero(alloc)?),
+            AnyView::CountOf(view) => AnySummary::CountOf(view.zero(alloc)?),
         })
     }
 
@@ -221,6 +241,8 @@ impl Vizketch for AnyView {
             )?),
             AnyView::NextRows(view) => AnySummary::NextRows(view.summarize(alloc, table)?),
             AnyView::Find(view) => AnySummary::Find(view.summarize(alloc, table)?),
+            AnyView::Heavy(view) => AnySummary::Heavy(view.summarize(alloc, table)?),
+            AnyView::CountOf(view) => AnySummary::CountOf(view.summarize(alloc, table)?),
         })
     }
 
@@ -261,6 +283,12 @@ impl Vizketch for AnyView {
             (AnyView::Find(view), AnySummary::Find(acc), AnySummary::Find(d)) => {
                 view.merge_into(alloc, acc, d)
             }
+            (AnyView::Heavy(view), AnySummary::Heavy(acc), AnySummary::Heavy(d)) => {
+                view.merge_into(alloc, acc, d)
+            }
+            (AnyView::CountOf(view), AnySummary::CountOf(acc), AnySummary::CountOf(d)) => {
+                view.merge_into(alloc, acc, d)
+            }
             _ => unreachable!(),
         }
     }
@@ -290,6 +318,10 @@ impl Vizketch for AnyView {
                 AnySummary::NextRows(view.copy(alloc, s)?)
             }
             (AnyView::Find(view), AnySummary::Find(s)) => AnySummary::Find(view.copy(alloc, s)?),
+            (AnyView::Heavy(view), AnySummary::Heavy(s)) => AnySummary::Heavy(view.copy(alloc, s)?),
+            (AnyView::CountOf(view), AnySummary::CountOf(s)) => {
+                AnySummary::CountOf(view.copy(alloc, s)?)
+            }
             // a summary of another view stands for nothing, so any summary will do
             _ => return self.zero(alloc),
         })

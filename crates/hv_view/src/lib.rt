@@ -3,6 +3,8 @@
 
 mod any_summary;
 mod any_view;
+mod auto;
+mod frequent;
 mod plan;
 mod shown;
 #[cfg(test)]
@@ -11,5 +13,7 @@ mod trellis;
 
 pub use any_summary::AnySummary;
 pub use any_view::AnyView;
+pub use auto::AutoShown;
+pub use frequent::{FrequentPair, FrequentShown};
 pub use plan::{Plan, Second, conclude, first_view, then};
 pub use shown::{Shown, finish};

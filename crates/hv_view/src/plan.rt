@@ -1,7 +1,7 @@
 //! Plans: how the value that was asked for comes of views. One view's value may be all, or a second view follows
 //! that depends on it. The definitions are in specs/Plans.antt, one case a plan.
 
-ghost use Rattle.std.specs.Prelude.{◌≡◌, ◌↔◌, List, IfOk, IfSome, IsSome, IsTrue};
+ghost use Rattle.std.specs.Prelude.{◌≡◌, ◌≤◌, ◌↔◌, true, List, IfOk, IfSome, IsSome, IsTrue};
 ghost use Rattle.std.specs.Cmp.{partial_equiv_from_equiv};
 ghost use Rattle.std.proofs.Common.{ap};
 ghost use Rattle.hv_value.specs.Same.{same_by};
@@ -9,11 +9,17 @@ ghost use Rattle.hv_value.specs.SameLaws.{same_by-decides, same_by-equiv};
 ghost use Rattle.hv_view.specs.Keys.{plan_writes};
 ghost use Rattle.hv_value.specs.Rows.{Row};
 ghost use Rattle.hv_value.specs.Schema.{Columns};
-ghost use Rattle.hv_view.specs.Plans.{EndsAtFirst, FitsPlan, IsConclusion, IsFirstValue, IsFirstView, IsNext, IsSecondValue, OfPlan, value_next, view_next};
+ghost use Rattle.hv_view.specs.Auto.{auto_axis, do_rise};
+ghost use Rattle.hv_view.specs.Plans.{EndsAtFirst, FitsPlan, FollowsHeavy, auto_next, IsConclusion, IsFirstValue, IsFirstView, IsNext, IsSecondValue, OfPlan, value_next, view_next};
 ghost use Rattle.hv_view.specs.Stands.{FitsAny};
 
+use crate::auto::{auto_axis, between, without_buckets};
+use crate::frequent::{frequent_among, pair_values};
 use crate::{AnyView, Shown};
-use hv_value::{Mem, Schema};
+use hv_heavy::{CountOf, HeavySummary, MisraGries};
+use hv_hist::Histogram;
+use hv_range::Range;
+use hv_value::{Cell, Mem, Schema};
 use std::alloc::Global;
 use std::hash::{Hash, Hasher};
 
@@ -22,6 +28,12 @@ use std::hash::{Hash, Hasher};
 pub enum Plan {
     /// The value of one view.
     One(AnyView),
+    /// The histogram of a column of whole numbers or days, by its place from 0, in so many buckets between its least and
+    /// its greatest cell: its range, and then the histogram.
+    AutoHistogram { col: u32, n: u32 },
+    /// The values that are more than one in k + 1 of the cells of a column that aren't missing, with their counts: its
+    /// heavy hitters, and then how many cells each of them is.
+    Frequent { col: u32, k: u32 },
 }
 
 /// What follows the value of a plan's first view.
@@ -40,6 +52,8 @@ impl Plan {
     {
         Ok(match self {
             Plan::One(view) => Plan::One(view.copied(alloc)?),
+            Plan::AutoHistogram { col, n } => Plan::AutoHistogram { col: *col, n: *n },
+            Plan::Frequent { col, k } => Plan::Frequent { col: *col, k: *k },
         })
     }
 
@@ -49,6 +63,21 @@ impl Plan {
     {
         match (self, other) {
             (Plan::One(view), Plan::One(other)) => view.same(other),
+            (
+                Plan::AutoHistogram { col, n },
+                Plan::AutoHistogram {
+                    col: other_col,
+                    n: other_n,
+                },
+            ) => col == other_col && n == other_n,
+            (
+                Plan::Frequent { col, k },
+                Plan::Frequent {
+                    col: other_col,
+                    k: other_k,
+                },
+            ) => col == other_col && k == other_k,
+            _ => false,
         }
     }
 }
@@ -86,6 +115,16 @@ impl Hash for Plan {
                 state.write_u8(0);
                 view.hash(state);
             }
+            Plan::AutoHistogram { col, n } => {
+                state.write_u8(1);
+                state.write_u32(*col);
+                state.write_u32(*n);
+            }
+            Plan::Frequent { col, k } => {
+                state.write_u8(2);
+                state.write_u32(*col);
+                state.write_u32(*k);
+            }
         }
     }
 }
@@ -96,9 +135,13 @@ pub fn first_view(alloc: Global, plan: &Plan, schema: &Schema) -> Mem<AnyView>
     ensures value { IfOk result (λ view. IsFirstView plan.now schema.now view) }
     ensures fits { IfOk result (λ view. FitsAny view schema.now) }
 {
-    let _ = schema;
     match plan {
         Plan::One(view) => view.copied(alloc),
+        Plan::AutoHistogram { col, .. } => {
+            let kind = schema.kind(*col);
+            Ok(AnyView::Range(Range::new(*col, kind)))
+        }
+        Plan::Frequent { col, k } => Ok(AnyView::Heavy(MisraGries::new(*col, *k))),
     }
 }
 
@@ -113,14 +156,26 @@ pub fn then(alloc: Global, plan: &Plan, schema: &Schema, first: &Shown) -> Mem<S
         → IsFirstValue plan.now schema.now rows first.now → OfPlan plan.now rows rows value)) }
 {
     let _ = schema;
-    match plan {
-        Plan::One(_) => Ok(Second::Value(first.copied(alloc)?)),
+    match (plan, first) {
+        (Plan::One(_), first) => Ok(Second::Value(first.copied(alloc)?)),
+        (
+            Plan::AutoHistogram { col, n },
+            Shown::Range {
+                max,
+                min,
+                missing,
+                ..
+            },
+        ) => after_range(alloc, *col, *n, min, max, *missing),
+        (Plan::Frequent { col, .. }, Shown::Heavy(found)) => after_heavy(alloc, *col, found),
+        // the first value is another view's
+        _ => unreachable!(),
     }
 }
 
 /// A plan's value, of the value of its first view and that of the view that follows. With one view, `second` is
 /// that view's value.
-pub fn conclude(_alloc: Global, plan: &Plan, first: &Shown, second: Shown) -> Mem<Shown>
+pub fn conclude(alloc: Global, plan: &Plan, first: &Shown, second: Shown) -> Mem<Shown>
     requires { (columns : Columns) × (whole : List Row) × (rows : List Row) × FitsPlan plan.now columns
         × IsFirstValue plan.now columns whole first.now × IsSecondValue plan.now columns first.now rows second }
     ensures made { IfOk result (λ value. IsConclusion plan.now first.now second value) }
@@ -128,8 +183,47 @@ pub fn conclude(_alloc: Global, plan: &Plan, first: &Shown, second: Shown) -> Me
         → FitsPlan plan.now columns → IsFirstValue plan.now columns whole first.now
         → IsSecondValue plan.now columns first.now rows second → OfPlan plan.now whole rows value) }
 {
-    let _ = first;
-    match plan {
-        Plan::One(_) => Ok(second),
+    match (plan, first, second) {
+        (Plan::One(_), _, second) => Ok(second),
+        (Plan::AutoHistogram { .. }, Shown::Range { max, min, .. }, Shown::Histogram(histogram)) =>
+            Ok(Shown::Auto(between(alloc, min, max, histogram)?)),
+        (Plan::Frequent { k, .. }, Shown::Heavy(found), Shown::CountOf(counted)) => {
+            let value = frequent_among(alloc, *k, found.pairs.as_slice(), &counted)?;
+            Ok(Shown::Frequent(value))
+        }
+        // the values are other views'
+        _ => unreachable!(),
     }
+}
+
+/// What follows the range of a column: its histogram between the ends, or the value where there are none.
+fn after_range(
+    alloc: Global,
+    col: u32,
+    n: u32,
+    least: &Cell,
+    greatest: &Cell,
+    missing: u64,
+) -> Mem<Second>
+    requires rise { do_rise least.now greatest.now ≡ true }
+    requires some { 1 ≤ n }
+    requires few { n ≤ 1024 }
+    ensures { IfOk result (λ next.
+        next ≡ auto_next (auto_axis col n least.now greatest.now) least.now greatest.now missing) }
+{
+    match auto_axis(col, n, least, greatest) {
+        Some(axis) => Ok(Second::View(AnyView::Histogram(Histogram { axis }))),
+        None => {
+            let value = without_buckets(alloc, least, greatest, missing)?;
+            Ok(Second::Value(Shown::Auto(value)))
+        }
+    }
+}
+
+/// What follows heavy hitters: the counts of their values.
+fn after_heavy(alloc: Global, col: u32, found: &HeavySummary) -> Mem<Second>
+    ensures { IfOk result (λ next. FollowsHeavy col (Shown.Heavy found.now) next) }
+{
+    let values = pair_values(alloc, found.pairs.as_slice())?;
+    Ok(Second::View(AnyView::CountOf(CountOf { col, values })))
 }

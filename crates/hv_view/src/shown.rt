@@ -6,16 +6,17 @@ ghost use Rattle.hv_view.specs.Stands.{StandsForAny};
 ghost use Rattle.hv_view.specs.View.{IsView, sum_shown};
 
 use crate::trellis::values_of_groups;
-use crate::{AnySummary, AnyView};
+use crate::{AnySummary, AnyView, AutoShown, FrequentShown};
 use hv_find::FindSummary;
 use hv_grid::{HeatMapShown, StackedShown};
+use hv_heavy::{CountShown, HeavySummary};
 use hv_hist::{CdfShown, HistogramShown};
 use hv_next::NextSummary;
 use hv_sketch::copied_cells;
 use hv_value::{Cell, Kind, Listed, Mem};
 use std::alloc::Global;
 
-/// The value of a view, one variant a view.
+/// The value of a view or of a plan, one variant each.
 #[derive(Drop)]
 pub enum Shown {
     /// Of a range: how many cells aren't missing, the greatest and the least of them (missing where there is
@@ -54,6 +55,14 @@ pub enum Shown {
     NextRows(NextSummary),
     /// Of a search: how many rows that match are above a key, how many aren't, and the least key above.
     Find(FindSummary),
+    /// Of heavy hitters: values with estimates of how many cells they are, and how many cells there are.
+    Heavy(HeavySummary),
+    /// Of a count: how many cells are each of the given values, in their order.
+    CountOf(CountShown),
+    /// Of a histogram between a column's own ends: the counts, and the ends.
+    Auto(AutoShown),
+    /// Of frequent values: all of them, each with its count.
+    Frequent(FrequentShown),
 }
 
 impl Shown {
@@ -93,6 +102,10 @@ impl Shown {
             },
             Shown::NextRows(value) => Shown::NextRows(value.copy(alloc)?),
             Shown::Find(value) => Shown::Find(value.copy(alloc)?),
+            Shown::Heavy(value) => Shown::Heavy(value.copy(alloc)?),
+            Shown::CountOf(value) => Shown::CountOf(value.copied(alloc)?),
+            Shown::Auto(value) => Shown::Auto(value.copied(alloc)?),
+            Shown::Frequent(value) => Shown::Frequent(value.copied(alloc)?),
         })
     }
 }
@@ -134,6 +147,8 @@ pub fn finish(alloc: Global, view: &AnyView, s: &AnySummary) -> Mem<Shown>
         },
         (AnyView::NextRows(_), AnySummary::NextRows(s)) => Shown::NextRows(s.copy(alloc)?),
         (AnyView::Find(_), AnySummary::Find(s)) => Shown::Find(s.copy(alloc)?),
+        (AnyView::Heavy(_), AnySummary::Heavy(s)) => Shown::Heavy(s.copy(alloc)?),
+        (AnyView::CountOf(view), AnySummary::CountOf(s)) => Shown::CountOf(view.value(alloc, s)?),
         _ => Shown::Distinct {
             more: false,
             values: Listed::new(alloc),
