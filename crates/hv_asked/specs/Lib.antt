@@ -4,6 +4,7 @@ pub mod Constants
 pub mod Axes
 pub mod Words
 pub mod Trees
+pub mod Values
 pub mod Orders
 pub mod Tables
 pub mod Meant

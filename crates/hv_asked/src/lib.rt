@@ -13,14 +13,15 @@ mod pred_asked;
 pub mod preds;
 mod refused;
 pub mod tables;
+pub mod values;
 mod why;
 mod words;
 
 pub use asked::{AxisAsked, CellAsked, PAST_COUNTS, TableAsked, do_fit, product};
 pub use constants::is_short;
 pub use limits::{
-    LEVELS, MAX_CONSTANT_BYTES, MAX_COUNTS, MAX_DISTINCT, MAX_FIND_COLUMNS, MAX_GROUPS, MAX_ID,
-    MAX_MESSAGE_BYTES, MAX_NEXT, MAX_NODES, MAX_OBJECTS, MAX_OPEN,
+    LEVELS, MAX_CONSTANT_BYTES, MAX_COUNTED, MAX_COUNTS, MAX_DISTINCT, MAX_FIND_COLUMNS,
+    MAX_GROUPS, MAX_HEAVY, MAX_ID, MAX_MESSAGE_BYTES, MAX_NEXT, MAX_NODES, MAX_OBJECTS, MAX_OPEN,
 };
 pub use orders::{KeyAsked, OrderAsked};
 pub use pred_asked::PredAsked;

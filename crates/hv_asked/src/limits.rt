@@ -15,6 +15,12 @@ pub const MAX_NODES: u64 = 64;
 /// The most values of a distinct view.
 pub const MAX_DISTINCT: u32 = 500;
 
+/// The most values of heavy hitters, and of frequent values.
+pub const MAX_HEAVY: u32 = 1_000;
+
+/// The most values that are counted.
+pub const MAX_COUNTED: usize = 1_000;
+
 /// The most keys of a view of next rows.
 pub const MAX_NEXT: u32 = 500;
 

@@ -115,7 +115,8 @@ fn fits_after(after: &Option<Listed<CellAsked>>) -> bool
     }
 }
 
-fn fit_cells(cells: &[CellAsked]) -> bool
+/// Whether cells are within the limits of constants.
+pub(crate) fn fit_cells(cells: &[CellAsked]) -> bool
     ensures { result ≡ list_all fits_cell cells.now }
 {
     cells.iter().all(fits_one)

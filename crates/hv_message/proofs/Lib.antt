@@ -1,3 +1,4 @@
+mod CountFacts
 pub mod TreeLemmas
 pub mod TableLemmas
 pub mod LevelLemmas

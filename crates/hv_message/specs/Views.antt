@@ -8,13 +8,16 @@ use Rattle.hv_value.specs.declared.cell.Kind.TheVariants as kind
 use Rattle.hv_value.specs.declared.orders.OrderKey.{OrderKey}
 use Rattle.hv_value.specs.Schema.{Columns}
 use Rattle.hv_bucket.specs.declared.buckets.Axis.{Axis}
+use Rattle.hv_bucket.specs.declared.error.TheConstants.{MAX_BUCKETS}
 use Rattle.hv_expr.specs.declared.text_test.TextTest.{TextTest}
 use Rattle.hv_view.specs.declared.any_view.AnyView.TheVariants as any
 use Rattle.hv_view.specs.declared.plan.Plan.{Plan}
-use Rattle.hv_view.specs.declared.plan.Plan.TheVariants.{One}
+use Rattle.hv_view.specs.declared.plan.Plan.TheVariants as plan
+use Rattle.hv_view.specs.declared.plan.Plan.TheVariants.{One, AutoHistogram}
 use Rattle.hv_message.specs.declared.asked.ViewAsked.{ViewAsked}
-use Rattle.hv_message.specs.declared.asked.ViewAsked.TheVariants.{Range, Distinct, Histogram, Cdf, Stacked, HeatMap, Trellis, Next, Find}
+use Rattle.hv_message.specs.declared.asked.ViewAsked.TheVariants.{Range, Distinct, Histogram, Cdf, Stacked, HeatMap, Trellis, Next, Find, Heavy, Count, Auto, Frequent}
 use Rattle.hv_asked.specs.declared.asked.AxisAsked.{AxisAsked}
+use Rattle.hv_asked.specs.declared.asked.CellAsked.{CellAsked}
 use Rattle.hv_message.specs.declared.asked.InnerAsked.{InnerAsked}
 use Rattle.hv_message.specs.declared.asked.InnerAsked.TheVariants as inner
 use Rattle.hv_asked.specs.declared.orders.OrderAsked.{OrderAsked}
@@ -26,7 +29,8 @@ use Rattle.hv_asked.specs.Flaws.{all_meant, and_then, map_ok}
 use Rattle.hv_asked.specs.Fields.{integer_at, text_at, texts_at}
 use Rattle.hv_asked.specs.Orders.{fits_order, order_in, order_over}
 use Rattle.hv_asked.specs.Trees.{test_in, under}
-use Rattle.hv_asked.specs.declared.limits.TheConstants.{MAX_DISTINCT, MAX_FIND_COLUMNS, MAX_GROUPS, MAX_NEXT}
+use Rattle.hv_asked.specs.Values.{fit_values, value_beside, values_at}
+use Rattle.hv_asked.specs.declared.limits.TheConstants.{MAX_DISTINCT, MAX_FIND_COLUMNS, MAX_GROUPS, MAX_HEAVY, MAX_NEXT}
 
 -- ---- what a view asks for
 
@@ -60,6 +64,24 @@ next_of value = option_and_then (λ order. option_map (Next order) (integer_at (
 abbrev pub find_of : Data → Option ViewAsked
 find_of value = option_and_then (λ cols. option_and_then (λ test. option_map (Find cols test) (order_in value)) (under test_in (codes "test") value)) (texts_at (codes "cols") value)
 
+-- the column of a view, and a whole number under a key
+abbrev pub column_and : List ℕ → Data → Option (List ℕ × ℤ)
+column_and key value = option_and_then (λ col. option_map (λ n. (col, n)) (integer_at key value)) (text_at (codes "col") value)
+
+-- heavy hitters, frequent values and a histogram between a column's own ends: the column and a number
+abbrev pub heavy_of : Data → Option ViewAsked
+heavy_of value = option_map (λ (asked : List ℕ × ℤ). Heavy asked.0 asked.1) (column_and (codes "k") value)
+
+abbrev pub frequent_of : Data → Option ViewAsked
+frequent_of value = option_map (λ (asked : List ℕ × ℤ). Frequent asked.0 asked.1) (column_and (codes "k") value)
+
+abbrev pub auto_of : Data → Option ViewAsked
+auto_of value = option_map (λ (asked : List ℕ × ℤ). Auto asked.0 asked.1) (column_and (codes "n") value)
+
+-- counts: the column and the values
+abbrev pub count_of : Data → Option ViewAsked
+count_of value = option_and_then (λ col. option_map (Count col) (values_at (codes "values") value)) (text_at (codes "col") value)
+
 abbrev pub trellis_of : Data → Option ViewAsked
 trellis_of value = option_and_then (λ by. option_map (Trellis by) (option_and_then inner_of (get (codes "view") value))) (axis_in (codes "by") value)
 
@@ -75,6 +97,10 @@ view_with value word =
     else if bytes_eq word (codes "trellis") then trellis_of value
     else if bytes_eq word (codes "next") then next_of value
     else if bytes_eq word (codes "find") then find_of value
+    else if bytes_eq word (codes "heavy") then heavy_of value
+    else if bytes_eq word (codes "count") then count_of value
+    else if bytes_eq word (codes "auto") then auto_of value
+    else if bytes_eq word (codes "frequent") then frequent_of value
     else None
 
 abbrev pub view_of : Data → Option ViewAsked
@@ -83,7 +109,9 @@ view_of value = option_and_then (view_with value) (text_at (codes "kind") value)
 abbrev pub view_in : Data → Option ViewAsked
 view_in value = option_and_then view_of (get (codes "view") value)
 
--- ---- its limits: 1 to 500 different values or keys, 1 to 64 columns of a search, and those of its axes, its order and its test
+-- ---- its limits: 1 to 500 different values or keys, 1 to 1,000 heavy hitters or frequent values, at most 1,000 counted ones,
+-- 1 to 64 columns of a search, and those of its axes, its order and its test. The buckets of a histogram between a column's own
+-- ends are within them: they are refused where the plan is made
 
 -- what is taken of each group's rows has its own limits, wherever it is taken
 abbrev pub fits_inner : InnerAsked → Bool
@@ -117,6 +145,10 @@ fits_view (HeatMap x y) = do_fit x y
 fits_view (Trellis by inner) = fits_trellis by inner
 fits_view (Next order k) = fits_order order && is_from_one MAX_NEXT k
 fits_view (Find cols test order) = fits_find cols test order
+fits_view (Heavy col k) = is_from_one MAX_HEAVY k
+fits_view (Count col values) = fit_values values
+fits_view (Auto col n) = true
+fits_view (Frequent col k) = is_from_one MAX_HEAVY k
 
 -- ---- what it means
 
@@ -144,6 +176,16 @@ next_plan k found = One (any.NextRows (record { order = found.0; after = found.1
 abbrev pub find_plan : List ℕ → TextTest → List OrderKey × Option (List Cell) → Plan
 find_plan cols test found = One (any.Find (record { cols = cols; test = test; order = found.0; after = found.1 }))
 
+-- the plan of the counts of values in a column
+abbrev pub count_plan : List CellAsked → ℕ × Kind → Result Plan Why
+count_plan asked column = map_ok (λ values. One (any.CountOf (record { col = column.0; values = values }))) (all_meant (value_beside column.1) asked)
+
+-- the plan of so many buckets between the ends of a column, where there are such buckets
+abbrev pub auto_plan : ℤ → ℕ × Kind → Result Plan Why
+auto_plan n (col, kind.Text) = Err why.Kind
+auto_plan n (col, kind.Int) = if is_from_one MAX_BUCKETS n then Ok (AutoHistogram col (unsigned_abs n)) else Err why.Buckets
+auto_plan n (col, kind.Date) = if is_from_one MAX_BUCKETS n then Ok (AutoHistogram col (unsigned_abs n)) else Err why.Buckets
+
 -- the plan of its value over columns
 abbrev pub planned : Columns → ViewAsked → Result Plan Why
 planned columns (Range name) = map_ok (λ (column : ℕ × Kind). One (any.Range (record { col = column.0; kind = column.1 }))) (column_named columns name)
@@ -155,3 +197,7 @@ planned columns (HeatMap x y) = map_ok (λ (both : Axis × Axis). One (any.HeatM
 planned columns (Trellis by inner) = trellis_over columns by inner
 planned columns (Next order k) = map_ok (next_plan k) (order_over columns order)
 planned columns (Find names test order) = and_then (λ cols. map_ok (find_plan cols test) (order_over columns order)) (all_meant (text_named columns) names)
+planned columns (Heavy name k) = map_ok (λ (column : ℕ × Kind). One (any.Heavy (record { col = column.0; k = unsigned_abs k }))) (column_named columns name)
+planned columns (Count name values) = and_then (count_plan values) (column_named columns name)
+planned columns (Auto name n) = and_then (auto_plan n) (column_named columns name)
+planned columns (Frequent name k) = map_ok (λ (column : ℕ × Kind). plan.Frequent column.0 (unsigned_abs k)) (column_named columns name)

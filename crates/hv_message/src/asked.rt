@@ -7,9 +7,10 @@ ghost use Rattle.hv_message.specs.Terms as term;
 ghost use Rattle.hv_message.specs.Views as seen;
 
 use hv_asked::exprs::fits_expr;
+use hv_asked::values::fit_values;
 use hv_asked::{
-    AxisAsked, MAX_COUNTS, MAX_DISTINCT, MAX_FIND_COLUMNS, MAX_GROUPS, MAX_NEXT, OrderAsked,
-    PAST_COUNTS, PredAsked, TableAsked, do_fit, is_short, product,
+    AxisAsked, CellAsked, MAX_COUNTS, MAX_DISTINCT, MAX_FIND_COLUMNS, MAX_GROUPS, MAX_HEAVY,
+    MAX_NEXT, OrderAsked, PAST_COUNTS, PredAsked, TableAsked, do_fit, is_short, product,
 };
 use hv_expr::{Expr, TextTest};
 use hv_value::{Listed, Text};
@@ -63,6 +64,14 @@ pub enum ViewAsked {
     Next(OrderAsked, i128),
     /// The rows where one of the columns with these names meets a test, in an order.
     Find(Listed<Text>, TextTest, OrderAsked),
+    /// The heavy hitters of the column with this name, so many of them at most.
+    Heavy(Text, i128),
+    /// How many cells of the column with this name are each of some values.
+    Count(Text, Listed<CellAsked>),
+    /// The histogram of the column with this name between its own ends, in so many buckets.
+    Auto(Text, i128),
+    /// The values that are more than one in k + 1 of the cells of the column with this name, without missing ones.
+    Frequent(Text, i128),
 }
 
 /// A view of the rows of each group, before its columns are looked up.
@@ -114,6 +123,9 @@ impl ViewAsked {
             ViewAsked::Trellis(by, inner) => fits_trellis(by, inner),
             ViewAsked::Next(order, k) => order.fits() && is_from_one(MAX_NEXT, *k),
             ViewAsked::Find(cols, test, order) => fits_find(cols.as_slice(), test, order),
+            ViewAsked::Heavy(_, k) | ViewAsked::Frequent(_, k) => is_from_one(MAX_HEAVY, *k),
+            ViewAsked::Count(_, values) => fit_values(values.as_slice()),
+            ViewAsked::Auto(_, _) => true,
         }
     }
 }

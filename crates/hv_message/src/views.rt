@@ -1,11 +1,12 @@
 //! Views that a message asks for. What each means is said in specs/Views.antt.
 
 ghost use Rattle.std.specs.Prelude.{◌≡◌, pos, true, IfOk};
-ghost use Rattle.std.specs.List.{All};
+ghost use Rattle.std.specs.List.{All, list_all};
 ghost use Rattle.serde_json.specs.View.{view};
 ghost use Rattle.hv_value.specs.declared.cell.Kind.TheVariants as kind;
 ghost use Rattle.hv_sketch.specs.Columns.{IsColumnOf};
 ghost use Rattle.hv_view.specs.Plans.{FitsPlan};
+ghost use Rattle.hv_asked.specs.Constants.{fits_cell};
 ghost use Rattle.hv_asked.specs.Flaws.{all_meant, map_ok};
 ghost use Rattle.hv_asked.specs.Meant.{IsField, Tells};
 ghost use Rattle.hv_asked.specs.Orders.{fits_order, order_over};
@@ -17,10 +18,13 @@ use hv_asked::axes::{axes_in, axis_in, column, one_axis, three_axes, two_axes};
 use hv_asked::fields::{field, name, names, number, word};
 use hv_asked::orders::{order_in, order_over};
 use hv_asked::preds::test_in;
-use hv_asked::{AxisAsked, OrderAsked, Refused, Why};
+use hv_asked::values::{values_at, values_beside};
+use hv_asked::{AxisAsked, CellAsked, OrderAsked, Refused, Why};
+use hv_bucket::MAX_BUCKETS;
 use hv_expr::TextTest;
 use hv_find::Find;
 use hv_grid::{ByAxis, HeatMap, Stacked};
+use hv_heavy::{CountOf, MisraGries};
 use hv_hist::{Cdf, Histogram};
 use hv_next::NextRows;
 use hv_range::{Distinct, Range};
@@ -75,6 +79,44 @@ fn find_of(alloc: Global, value: &Value) -> Result<ViewAsked, Refused>
     Ok(ViewAsked::Find(cols, test, order))
 }
 
+/// The column of a view, and a whole number under a key.
+fn column_and(alloc: Global, value: &Value, key: &str) -> Result<(Text, i128), Refused>
+    ensures { IsField result (seen.column_and key.now (view value.now)) }
+{
+    let col = name(alloc, value, "col")?;
+    let n = number(value, key)?;
+    Ok((col, n))
+}
+
+fn heavy_of(alloc: Global, value: &Value) -> Result<ViewAsked, Refused>
+    ensures { IsField result (seen.heavy_of (view value.now)) }
+{
+    let (col, k) = column_and(alloc, value, "k")?;
+    Ok(ViewAsked::Heavy(col, k))
+}
+
+fn count_of(alloc: Global, value: &Value) -> Result<ViewAsked, Refused>
+    ensures { IsField result (seen.count_of (view value.now)) }
+{
+    let col = name(alloc, value, "col")?;
+    let values = values_at(alloc, value, "values")?;
+    Ok(ViewAsked::Count(col, values))
+}
+
+fn auto_of(alloc: Global, value: &Value) -> Result<ViewAsked, Refused>
+    ensures { IsField result (seen.auto_of (view value.now)) }
+{
+    let (col, n) = column_and(alloc, value, "n")?;
+    Ok(ViewAsked::Auto(col, n))
+}
+
+fn frequent_of(alloc: Global, value: &Value) -> Result<ViewAsked, Refused>
+    ensures { IsField result (seen.frequent_of (view value.now)) }
+{
+    let (col, k) = column_and(alloc, value, "k")?;
+    Ok(ViewAsked::Frequent(col, k))
+}
+
 fn trellis_of(alloc: Global, value: &Value) -> Result<ViewAsked, Refused>
     ensures { IsField result (seen.trellis_of (view value.now)) }
 {
@@ -110,6 +152,10 @@ fn view_of(alloc: Global, value: &Value) -> Result<ViewAsked, Refused>
         "trellis" => trellis_of(alloc, value),
         "next" => next_of(alloc, value),
         "find" => find_of(alloc, value),
+        "heavy" => heavy_of(alloc, value),
+        "count" => count_of(alloc, value),
+        "auto" => auto_of(alloc, value),
+        "frequent" => frequent_of(alloc, value),
         _ => Err(Refused::Word(Why::Field)),
     }
 }
@@ -155,7 +201,49 @@ pub(crate) fn planned(alloc: Global, schema: &Schema, wanted: ViewAsked) -> Resu
         ViewAsked::Trellis(by, inner) => trellis_over(schema, by, inner),
         ViewAsked::Next(order, k) => next_over(alloc, schema, order, k as u32),
         ViewAsked::Find(cols, test, order) => find_over(alloc, schema, cols, test, order),
+        ViewAsked::Heavy(name, k) => {
+            let (col, _) = column(schema, &name)?;
+            Ok(Plan::One(AnyView::Heavy(MisraGries::new(col, k as u32))))
+        }
+        ViewAsked::Count(name, values) => count_over(alloc, schema, &name, values.as_slice()),
+        ViewAsked::Auto(name, n) => Ok(auto_over(schema, &name, n)?),
+        ViewAsked::Frequent(name, k) => {
+            let (col, _) = column(schema, &name)?;
+            Ok(Plan::Frequent { col, k: k as u32 })
+        }
     }
+}
+
+/// The plan of the counts of values in the column with a name.
+fn count_over(
+    alloc: Global,
+    schema: &Schema,
+    name: &Text,
+    asked: &[CellAsked],
+) -> Result<Plan, Refused>
+    requires { list_all fits_cell asked.now ≡ true }
+    ensures value { Tells result (seen.planned schema.now (wanted.Count name.now asked.now)) }
+    ensures fits { IfOk result (λ plan. FitsPlan plan schema.now) }
+{
+    let (col, kind) = column(schema, name)?;
+    let values = values_beside(alloc, kind, asked)?;
+    Ok(Plan::One(AnyView::CountOf(CountOf { col, values })))
+}
+
+/// The plan of the histogram of the column with a name between its own ends. `Why::Kind` where it is one of texts, then
+/// `Why::Buckets` where so many buckets can't be.
+fn auto_over(schema: &Schema, name: &Text, n: i128) -> Result<Plan, Why>
+    ensures value { result ≡ seen.planned schema.now (wanted.Auto name.now n) }
+    ensures fits { IfOk result (λ plan. FitsPlan plan schema.now) }
+{
+    let (col, kind) = column(schema, name)?;
+    if kind == Kind::Text {
+        return Err(Why::Kind);
+    }
+    if n < 1 || n > i128::from(MAX_BUCKETS) {
+        return Err(Why::Buckets);
+    }
+    Ok(Plan::AutoHistogram { col, n: n as u32 })
 }
 
 /// The plan of the next rows, `k` of them at most.
