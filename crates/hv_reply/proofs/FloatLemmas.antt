@@ -18,15 +18,17 @@ use Rattle.hv_lineage.specs.declared.term.Term.{Term, fold-roll-Term, ind-Term, 
 use Rattle.hv_lineage.specs.declared.term.Term.TheOpen.{Term-F}
 use Rattle.hv_lineage.specs.Lineages.{TermOver, lineage_columns}
 use Rattle.hv_grid.specs.declared.shown.HeatMapShown.{HeatMapShown}
+use Rattle.hv_heavy.specs.declared.summary.HeavyPair.{HeavyPair}
 use Rattle.hv_hist.specs.declared.shown.HistogramShown.{HistogramShown}
 use Rattle.hv_next.specs.declared.summary.NextRow.{NextRow}
+use Rattle.hv_view.specs.declared.frequent.FrequentPair.{FrequentPair}
 use Rattle.hv_view.specs.declared.shown.Shown.{Shown}
 use Rattle.hv_view.specs.declared.shown.Shown.TheVariants as shown
 use Rattle.hv_reply.specs.declared.reply.Reply.{Reply}
 use Rattle.hv_reply.specs.declared.reply.Reply.TheVariants as reply
 use Rattle.hv_reply.specs.Lineages.{base_data, columns_data, expr_data, expr_node_data, lineage_data, pred_data, pred_node_data, term_data, term_node_data, texts_data}
 use Rattle.hv_reply.specs.Replies.{reply_data}
-use Rattle.hv_reply.specs.Values.{cell_data, day_data, grid_data, heat_map_data, histogram_data, key_or_null, list_of, next_row_data, shown_data, sum_data, whole, whole_or_null}
+use Rattle.hv_reply.specs.Values.{cell_data, day_data, frequent_pair_data, grid_data, heat_map_data, heavy_pair_data, histogram_data, key_or_null, list_of, next_row_data, shown_data, sum_data, whole, whole_or_null}
 
 -- ---- numbers, cells and lists
 
@@ -89,6 +91,14 @@ key_plain : (key : Option (List Cell)) → has_float (key_or_null key) ≡ false
 key_plain None = refl
 key_plain (Some key) = cells key
 
+heavy_pairs : (pairs : List HeavyPair) → has_float (list_of (map heavy_pair_data pairs)) ≡ false
+heavy_pairs [] = refl
+heavy_pairs (pair ∷ pairs) = rw (cell_plain pair.value) (heavy_pairs pairs)
+
+frequent_pairs : (pairs : List FrequentPair) → has_float (list_of (map frequent_pair_data pairs)) ≡ false
+frequent_pairs [] = refl
+frequent_pairs (pair ∷ pairs) = rw (cell_plain pair.value) (frequent_pairs pairs)
+
 shown_plain : (s : Shown) → has_float (shown_data s) ≡ false
 shown_plain (shown.Range count greatest least missing sum) = rw (cell_plain greatest, cell_plain least, sum_plain sum) refl
 shown_plain (shown.Distinct more values) = rw (cells values) refl
@@ -100,6 +110,10 @@ shown_plain (shown.TrellisHistogram groups rest) = rw (histograms groups) refl
 shown_plain (shown.TrellisHeatMap groups rest) = rw (heat_maps groups) refl
 shown_plain (shown.NextRows next) = rw (next_rows next.rows) refl
 shown_plain (shown.Find find) = rw (key_plain find.first) refl
+shown_plain (shown.Heavy heavy) = rw (heavy_pairs heavy.pairs) refl
+shown_plain (shown.CountOf count) = rw (wholes count.counts) refl
+shown_plain (shown.Auto auto) = rw (wholes auto.counts, cell_plain auto.hi, cell_plain auto.lo) refl
+shown_plain (shown.Frequent frequent) = rw (frequent_pairs frequent.pairs) refl
 
 -- ---- columns and bases
 

@@ -1,5 +1,5 @@
 -- Cells and the values of views as JSON: this project's own rule, over serde_json's words for JSON data. Keys are in byte order.
-use Rattle.std.specs.Prelude.{ℕ, ℤ, List, map, Option, Some, None, codes, if◌then◌else◌}
+use Rattle.std.specs.Prelude.{ℕ, ℤ, List, [], ◌∷◌, map, Option, Some, None, codes, if◌then◌else◌}
 use Rattle.std.specs.Fmt.{signed_decimal}
 use Rattle.serde_json.specs.Data.{Data, null, boolean, number, string, array, object, member, no_members, unsigned}
 use Rattle.serde_json.specs.Find.{of_integer}
@@ -11,10 +11,16 @@ use Rattle.hv_value.specs.declared.cell.Cell.TheVariants as cell
 use Rattle.hv_find.specs.declared.summary.FindSummary.{FindSummary}
 use Rattle.hv_grid.specs.declared.shown.HeatMapShown.{HeatMapShown}
 use Rattle.hv_grid.specs.declared.shown.StackedShown.{StackedShown}
+use Rattle.hv_heavy.specs.declared.count_of.CountShown.{CountShown}
+use Rattle.hv_heavy.specs.declared.summary.HeavyPair.{HeavyPair}
+use Rattle.hv_heavy.specs.declared.summary.HeavySummary.{HeavySummary}
 use Rattle.hv_hist.specs.declared.shown.CdfShown.{CdfShown}
 use Rattle.hv_hist.specs.declared.shown.HistogramShown.{HistogramShown}
 use Rattle.hv_next.specs.declared.summary.NextRow.{NextRow}
 use Rattle.hv_next.specs.declared.summary.NextSummary.{NextSummary}
+use Rattle.hv_view.specs.declared.auto.AutoShown.{AutoShown}
+use Rattle.hv_view.specs.declared.frequent.FrequentPair.{FrequentPair}
+use Rattle.hv_view.specs.declared.frequent.FrequentShown.{FrequentShown}
 use Rattle.hv_view.specs.declared.shown.Shown.{Shown}
 use Rattle.hv_view.specs.declared.shown.Shown.TheVariants as shown
 
@@ -99,7 +105,42 @@ find_data find = object (member (codes "above") (whole find.above)
     (member (codes "before") (whole find.before)
     (member (codes "first") (key_or_null find.first) no_members)))
 
--- the value of a view
+-- a list of a value and a number
+abbrev pub counted_data : Cell → ℕ → Data
+counted_data value count = list_of (cell_data value ∷ whole count ∷ [])
+
+abbrev pub heavy_pair_data : HeavyPair → Data
+heavy_pair_data pair = counted_data pair.value pair.estimate
+
+abbrev pub frequent_pair_data : FrequentPair → Data
+frequent_pair_data pair = counted_data pair.value pair.count
+
+-- how many cells are missing, how many aren't, and pairs of a value and an estimate
+abbrev pub heavy_data : HeavySummary → Data
+heavy_data heavy = object (member (codes "missing") (whole heavy.missing)
+    (member (codes "n") (whole heavy.n)
+    (member (codes "pairs") (list_of (map heavy_pair_data heavy.pairs)) no_members)))
+
+-- the counts of the given values, in their order, how many cells are missing, and how many aren't
+abbrev pub count_data : CountShown → Data
+count_data count = object (member (codes "counts") (counts_data count.counts)
+    (member (codes "missing") (whole count.missing)
+    (member (codes "n") (whole count.n) no_members)))
+
+-- the counts of the buckets, the ends, null where there are none, and how many cells are missing
+abbrev pub auto_data : AutoShown → Data
+auto_data auto = object (member (codes "counts") (counts_data auto.counts)
+    (member (codes "hi") (cell_data auto.hi)
+    (member (codes "lo") (cell_data auto.lo)
+    (member (codes "missing") (whole auto.missing) no_members))))
+
+-- how many cells are missing, how many aren't, and pairs of a value and its count
+abbrev pub frequent_data : FrequentShown → Data
+frequent_data frequent = object (member (codes "missing") (whole frequent.missing)
+    (member (codes "n") (whole frequent.n)
+    (member (codes "pairs") (list_of (map frequent_pair_data frequent.pairs)) no_members)))
+
+-- the value of a view or of a plan
 abbrev pub shown_data : Shown → Data
 shown_data (shown.Range count greatest least missing sum) = object (member (codes "count") (whole count)
     (member (codes "max") (cell_data greatest)
@@ -116,3 +157,7 @@ shown_data (shown.TrellisHistogram groups rest) = groups_data (map histogram_dat
 shown_data (shown.TrellisHeatMap groups rest) = groups_data (map heat_map_data groups) rest
 shown_data (shown.NextRows next) = next_data next
 shown_data (shown.Find find) = find_data find
+shown_data (shown.Heavy heavy) = heavy_data heavy
+shown_data (shown.CountOf count) = count_data count
+shown_data (shown.Auto auto) = auto_data auto
+shown_data (shown.Frequent frequent) = frequent_data frequent

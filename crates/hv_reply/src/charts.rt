@@ -12,7 +12,7 @@ use serde_json::{Value, json};
 use std::alloc::Global;
 
 /// Counts, in turn.
-fn counts_value(alloc: Global, counts: &[u64]) -> Mem<Value>
+pub(crate) fn counts_value(alloc: Global, counts: &[u64]) -> Mem<Value>
     ensures { IfOk result (λ value. view value ≡ counts_data counts.now) }
 {
     let mut list = Vec::with_capacity(alloc, counts.len())?;

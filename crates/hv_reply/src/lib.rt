@@ -2,6 +2,7 @@
 #![tactic(auto)]
 
 mod charts;
+mod counts;
 mod exprs;
 mod laws;
 mod lineages;

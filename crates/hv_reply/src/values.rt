@@ -14,6 +14,7 @@ ghost use Rattle.hv_reply.specs.Values.{cell_data, day_data, list_of, shown_data
 use crate::charts::{
     cdf_value, heat_map_value, heat_maps_value, histogram_value, histograms_value, stacked_value,
 };
+use crate::counts::{auto_value, count_value, frequent_value, heavy_value};
 use crate::rows::{find_value, next_value};
 use hv_value::{Cell, Mem, date_text};
 use hv_view::Shown;
@@ -105,7 +106,7 @@ fn sum_value(alloc: Global, sum: Option<i128>) -> Mem<Value>
     }
 }
 
-/// The value of a view.
+/// The value of a view or of a plan.
 pub fn shown_value(alloc: Global, shown: &Shown) -> Mem<Value>
     ensures { IfOk result (λ value. view value ≡ shown_data shown.now) }
 {
@@ -136,6 +137,10 @@ pub fn shown_value(alloc: Global, shown: &Shown) -> Mem<Value>
         Shown::TrellisHeatMap { groups, rest } => heat_maps_value(alloc, groups.as_slice(), *rest),
         Shown::NextRows(next) => next_value(alloc, next),
         Shown::Find(find) => find_value(alloc, find),
+        Shown::Heavy(heavy) => heavy_value(alloc, heavy),
+        Shown::CountOf(count) => count_value(alloc, count),
+        Shown::Auto(auto) => auto_value(alloc, auto),
+        Shown::Frequent(frequent) => frequent_value(alloc, frequent),
     }
 }
 
