@@ -27,6 +27,8 @@ first-value p told lineage columns view value same begins whole =
 pub second-value : (p : Plan) (columns : Columns) (first : Shown) (view : AnyView) (rows : List Row) (value : Shown) → IsNext p columns first (next.View view)
     → IsView view rows value → IsSecondValue p columns first rows value
 second-value (plan.One own) columns first view rows value follows shown = absurd (cc follows)
+second-value (plan.AutoHistogram col n) columns first view rows value follows shown = record { view = view; follows = follows; shown = shown }
+second-value (plan.Frequent col k) columns first view rows value follows shown = record { view = view; follows = follows; shown = shown }
 
 -- two things of one whole table hold of the same rows
 pub same-rows : (told : Told) (lineage : TermOver) (P Q : List Row → Type 0) (a : IsWhole told lineage P) (b : IsWhole told lineage Q) → a.rows ≡ b.rows

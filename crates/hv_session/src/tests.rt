@@ -1,10 +1,9 @@
-//! Whole talks of one session. What each reply must be is worked by hand.
+//! The last words of one session, by its own calls. What each must be is worked by hand; whole talks are scripts (tests/).
 
 use super::*;
 use hv_reply::Reply;
 use hv_value::{Catalog, Cell, CellRef};
 use hv_view::Shown;
-use serde_json::Value;
 use std::alloc::Global;
 use std::sync::Arc;
 use std::test::Fail;
@@ -14,39 +13,6 @@ fn session(alloc: Global) -> Result<Session, Fail> {
     Ok(Session::new(alloc, catalog)?)
 }
 
-/// A reply by its kind and its numbers: of an object its columns, partitions and the depth of its term.
-fn told(alloc: Global, reply: &Reply) -> Result<String, Fail> {
-    Ok(match reply {
-        Reply::Made { id, made, seed: _ } => format!(in alloc; "made {id} {made}")?,
-        Reply::Info { id, of } => {
-            let (columns, parts, depth) = (
-                of.get().schema().len(),
-                of.get().parts(),
-                of.get().depth(),
-            );
-            format!(in alloc; "info {id} {columns} {parts} {depth}")?
-        }
-        Reply::Final { id, .. } => format!(in alloc; "final {id}")?,
-        Reply::Cancelled { id } => format!(in alloc; "cancelled {id}")?,
-        Reply::Done { id } => format!(in alloc; "done {id}")?,
-        Reply::Malformed { id, why } => format!(in alloc; "malformed {id:?} {why:?}")?,
-        Reply::NoMem { id } => format!(in alloc; "no memory {id:?}")?,
-    })
-}
-
-/// What a session says at once, in one line.
-fn said(alloc: Global, answer: &Answer) -> Result<String, Fail> {
-    match answer {
-        Answer::Nothing => Ok(String::new(alloc)),
-        Answer::One(reply) => told(alloc, reply),
-        Answer::Two(reply, later) => {
-            let (reply, later) = (told(alloc, reply)?, told(alloc, later)?);
-            let (reply, later) = (reply.as_str(), later.as_str());
-            Ok(format!(in alloc; "{reply}, {later}")?)
-        }
-    }
-}
-
 /// The three rows 1, 2 and 3 of a column x, one in each partition.
 const LOAD: &str =
     r#"{"id":1,"op":"load","table":{"inline":{"parts":["x\n1\n","x\n2\n","x\n3\n"],"schema":[["x","int"]]}}}"#;
@@ -54,45 +20,6 @@ const LOAD: &str =
 /// The rows of object 0 of which x is at least 2.
 const FILTER: &str =
     r#"{"id":2,"of":0,"op":"filter","pred":{"col":"x","how":"ge","p":"cmp","to":2}}"#;
-
-#[test]
-fn a_talk_is_answered_message_by_message(rt: HostRuntime) -> Result<(), Fail> {
-    let alloc = rt.alloc();
-    let mut session = session(alloc)?;
-    for (text, want) in [
-        (LOAD, "made 1 0"),
-        (FILTER, "made 2 1"),
-        (r#"{"id":3,"of":1,"op":"project","cols":["x"]}"#, "made 3 2"),
-        (
-            r#"{"id":4,"of":2,"op":"derive","name":"y","expr":{"a":2,"b":1,"e":"linear","of":{"col":"x","e":"col"}}}"#,
-            "made 4 3",
-        ),
-        (r#"{"id":5,"of":3,"op":"info"}"#, "info 5 2 3 4"),
-        (
-            r#"{"id":6,"of":3,"op":"view","view":{"col":"y","kind":"range"}}"#,
-            "",
-        ),
-        (r#"{"id":6,"of":3,"op":"info"}"#, "malformed Some(6) Busy"),
-        (
-            r#"{"id":7,"op":"cancel","request":6}"#,
-            "cancelled 6, done 7",
-        ),
-        (
-            r#"{"id":7,"op":"cancel","request":6}"#,
-            "malformed Some(7) Request",
-        ),
-        ("{", "malformed None Json"),
-        (r#"{"id":8,"op":"end"}"#, ""),
-        (r#"{"id":9,"of":0,"op":"info"}"#, "malformed Some(9) Ended"),
-    ]
-    .as_slice()
-    {
-        let answer = session.hear(alloc, text);
-        assert_eq!(rt; said(alloc, &answer)?.as_str(), *want, "to {text}");
-    }
-    assert!(rt; !session.is_waiting());
-    Ok(())
-}
 
 /// Whether whole numbers are these, in their order.
 fn are_numbers(cells: &[Cell], want: &[i64]) -> bool {
@@ -210,19 +137,4 @@ fn open_requests_are_answered_in_their_order(rt: HostRuntime) -> Result<(), Fail
     assert!(rt; !session.is_waiting());
     assert!(rt; answers_nothing(alloc, &mut session));
     Ok(())
-}
-
-// A value that a text is read as is heard as the text is.
-#[test]
-fn a_value_is_heard_as_its_text(rt: HostRuntime) -> Result<(), Fail> {
-    let alloc = rt.alloc();
-    let mut session = session(alloc)?;
-    match Value::from_str(alloc, LOAD) {
-        Ok(value) => {
-            let answer = session.hear_value(alloc, LOAD, &value);
-            assert_eq!(rt; said(alloc, &answer)?.as_str(), "made 1 0");
-            Ok(())
-        }
-        Err(_) => Err(Fail::new("the text wasn't read")),
-    }
 }
