@@ -2,15 +2,20 @@
 # What views cost over 1,000,000 rows on one thread, as multiples of one plain loop: a plain Rust program (plain_range.rs)
 # that takes the range over the same whole numbers and their marks of missing cells, in the same run.
 #
-# Has a small program over hv_part's table, of a column of whole numbers, one in 16 of them missing, and one of eight short
-# texts, take the range, the distinct values and a histogram of the numbers, a heat map of them by the texts with four
-# left boundaries, a trellis of histograms by eight buckets of the numbers, the next 20 rows by text and number, the rows
-# whose text has a letter, and three pages of 500 keys of the numbers, near the start, in the middle and near the end: of
-# all rows, and of a table that was filtered to half of them, whose rows are listed. Checks each range against the plain
-# program's and all else against plain Python's, and prints the nanoseconds a row, the best of the passes of five runs.
-# Targets: of all rows the range at most 1.5 plain loops, the histogram 2.5, the heat map 8, the trellis 7, the next rows 6, the
-# search for a text 10; the range of half the rows at most 3 plain loops a kept row; of all rows no page more than a third
-# dearer than another. Ends with 1 where an answer is wrong, or a target is missed by more than half.
+# Has a small program over hv_part's table, of a column of whole numbers, one in 16 of them missing, and one of eight
+# short texts, take the range, the distinct values and a histogram of the numbers, a heat map of them by the texts with
+# four left boundaries, a trellis of histograms by eight buckets of the numbers, the next 20 rows by text and number,
+# the rows whose text has a letter, and three pages of 500 keys of the numbers, near the start, in the middle and near
+# the end: of all rows, and of a table that was filtered to half of them, whose rows are listed. Then, of a table of
+# 1,008 different numbers (eight of them in one row of sixteen each), of the texts and of numbers that are all
+# different: the heavy hitters with k 20, of the last with k 1,000 too, and what is frequent, which is the heavy hitters
+# and then the counts of their values. Checks each range against the plain program's and all else against plain
+# Python's, the heavy hitters by hv_heavy's way to cut, and prints the nanoseconds a row, the best of the passes of five
+# runs. Targets: of all rows the range at most 1.5 plain loops, the histogram 2.5, the heat map 8, the trellis 7, the
+# next rows 6, the search for a text 10; the heavy hitters of the 1,008 numbers 5, of the texts 10, frequent numbers and
+# texts twice that, the heavy hitters of different numbers with k 1,000 40, and at most 64 MB above the tables; the
+# range of half the rows at most 3 plain loops a kept row; of all rows no page more than a third dearer than another. Ends with 1 where an answer is wrong, or
+# a target is missed by more than half.
 #
 # The program is made, proved and built in a temporary folder, over copies of the crates; with a folder as its
 # argument, in that folder, which stays.
@@ -26,7 +31,7 @@ else
     work=$(mktemp -d) || exit 1
     trap 'rm -rf "$work"' EXIT
 fi
-crates="hv_value hv_member hv_column hv_part hv_sketch hv_range hv_bucket hv_hist hv_grid hv_next hv_expr hv_find"
+crates="hv_value hv_member hv_column hv_part hv_sketch hv_range hv_bucket hv_hist hv_grid hv_next hv_heavy hv_expr hv_find"
 
 make_program() {
     mkdir -p "$work/repo/crates" && cd "$work/repo" && git init -q . || return 1
@@ -35,13 +40,14 @@ make_program() {
         mkdir "crates/$crate" && cp -r "$1/crates/$crate/src" "$1/crates/$crate/specs" "$1/crates/$crate/proofs" "crates/$crate/"
     done
     sed -n "s/^hv_find: hv_value hv_sketch hv_next hv_expr/views: $crates/p" "$1/crates.txt" >> crates.txt
-    mkdir -p crates/views/src crates/views/specs crates/views/proofs/numbers crates/views/proofs/carriers crates/views/proofs/half
+    mkdir -p crates/views/src crates/views/specs crates/views/proofs/numbers crates/views/proofs/carriers crates/views/proofs/few crates/views/proofs/different crates/views/proofs/half
     : > crates/views/specs/Lib.antt
     : > crates/views/proofs/Lib.antt
     cat > crates/views/src/main.rt <<'RT'
 //! Takes views of a column of whole numbers and one of texts, over all rows and over half of them, in fifteen passes.
 //! Prints for each the rows, the nanoseconds of the best pass, and its value: of a chart a digest of its counts, of next
-//! rows how many come before, the keys, their rows and two of their numbers.
+//! rows how many come before, the keys, their rows and two of their numbers. Then takes heavy hitters, and the counts of their
+//! values, of columns of few numbers, of texts and of numbers that are all different.
 #![tactic(auto)]
 
 ghost use Rattle.std.specs.Prelude.{◌≡◌, ◌≤◌, ◌∷◌, [], length, map, true, IfOk};
@@ -54,6 +60,7 @@ use hv_column::Column;
 use hv_expr::{How, TextTest};
 use hv_find::Find;
 use hv_grid::{ByAxis, HeatMap, Trellis};
+use hv_heavy::{CountOf, CountShown, HeavySummary, MisraGries};
 use hv_hist::Histogram;
 use hv_member::Member;
 use hv_next::{NextRows, NextSummary};
@@ -104,6 +111,25 @@ fn carrier_of(state: u64) -> CellRef<'static>
     })
 }
 
+/// One of 1,008 numbers: each of the first eight in one row of sixteen.
+fn few_of(state: u64) -> CellRef<'static>
+    ensures { is_of_kind kind.Int (cell_lent result) ≡ true }
+{
+    let word = state / 4_294_967_296;
+    if word % 2 == 0 {
+        CellRef::Int((word / 2 % 8) as i64)
+    } else {
+        CellRef::Int((word / 2 % 1000) as i64 + 8)
+    }
+}
+
+/// A number that no other state has, but for its last bit.
+fn different_of(state: u64) -> CellRef<'static>
+    ensures { is_of_kind kind.Int (cell_lent result) ≡ true }
+{
+    CellRef::Int((state / 2) as i64)
+}
+
 fn is_kept(state: u64) -> bool {
     state / 4_294_967_296 % 2 == 0
 }
@@ -140,6 +166,38 @@ fn carriers(alloc: Global, rows: u32) -> Mem<Arc<Column>>
     Ok(Arc::new(alloc, column)?)
 }
 
+/// The few numbers, a cell for each state of the generator.
+fn few(alloc: Global, rows: u32) -> Mem<Arc<Column>>
+    requires { rows ≤ MOST_ROWS }
+    ensures kind { IfOk result (λ column. (arc_value column).kind ≡ kind.Int) }
+    ensures length { IfOk result (λ column. length (arc_value column).cells ≡ rows) }
+{
+    let mut column = Column::new(alloc, Kind::Int)?;
+    let mut state = 1;
+    for row in 0..rows {
+        let _ = row;
+        state = next(state);
+        column.push(few_of(state))?;
+    }
+    Ok(Arc::new(alloc, column)?)
+}
+
+/// The different numbers, a cell for each state of the generator.
+fn different(alloc: Global, rows: u32) -> Mem<Arc<Column>>
+    requires { rows ≤ MOST_ROWS }
+    ensures kind { IfOk result (λ column. (arc_value column).kind ≡ kind.Int) }
+    ensures length { IfOk result (λ column. length (arc_value column).cells ≡ rows) }
+{
+    let mut column = Column::new(alloc, Kind::Int)?;
+    let mut state = 1;
+    for row in 0..rows {
+        let _ = row;
+        state = next(state);
+        column.push(different_of(state))?;
+    }
+    Ok(Arc::new(alloc, column)?)
+}
+
 /// About half the rows.
 fn half(alloc: Global, rows: u32) -> Mem<Member>
     ensures { IfOk result (λ made. made.size ≡ rows) }
@@ -172,6 +230,27 @@ fn table_of(alloc: Global, rows: u32, member: Member) -> Mem<PartTable>
     columns.push(numbers(alloc, rows)?)?;
     columns.push(carriers(alloc, rows)?)?;
     Ok(PartTable::new(schema_of(alloc)?, 0, columns, member))
+}
+
+fn counted_schema(alloc: Global) -> Mem<Schema>
+    ensures { IfOk result (λ schema. map (λ column. column.1) schema ≡ kind.Int ∷ kind.Text ∷ kind.Int ∷ []) }
+{
+    let mut columns = Vec::new(alloc);
+    columns.push((Text::of(alloc, "few")?, Kind::Int))?;
+    columns.push((Text::of(alloc, "t")?, Kind::Text))?;
+    columns.push((Text::of(alloc, "different")?, Kind::Int))?;
+    Schema::new(columns).map_err(|_| Memory)
+}
+
+fn counted_table(alloc: Global, rows: u32, member: Member) -> Mem<PartTable>
+    requires few { rows ≤ MOST_ROWS }
+    requires size { member.size ≡ rows }
+{
+    let mut columns = Vec::new(alloc);
+    columns.push(few(alloc, rows)?)?;
+    columns.push(carriers(alloc, rows)?)?;
+    columns.push(different(alloc, rows)?)?;
+    Ok(PartTable::new(counted_schema(alloc)?, 0, columns, member))
 }
 
 /// So many buckets of the numbers; one number in ten is outside.
@@ -414,6 +493,97 @@ fn show_found<T: Table>(
     }
 }
 
+/// Of heavy hitters: the pairs, a digest of their estimates, and the first value and the last, 0 for a text.
+fn hitters_of(summary: &HeavySummary) -> (u64, u64, i64, i64) {
+    let mut pairs: u64 = 0;
+    let mut found: u64 = 0;
+    let mut first = 0;
+    let mut last = 0;
+    for pair in summary.pairs.as_slice() {
+        last = number_of(&pair.value);
+        if pairs == 0 {
+            first = last;
+        }
+        pairs = pairs.wrapping_add(1);
+        found = found.wrapping_mul(31).wrapping_add(pair.estimate);
+    }
+    (pairs, found, first, last)
+}
+
+fn show_hitters<T: Table>(
+    rt: &HostRuntime,
+    rows: &str,
+    col: u32,
+    k: u32,
+    table: &T,
+) -> io::Result<()> {
+    let Ok((best, summary)) = measured(rt, &MisraGries::new(col, k), table) else {
+        return println!(rt; "no memory");
+    };
+    let (pairs, found, first, last) = hitters_of(&summary);
+    println!(rt; "{rows} {best} {} {} {pairs} {found} {first} {last}", summary.missing, summary.n)
+}
+
+/// The values of heavy hitters.
+fn values_of(alloc: Global, summary: &HeavySummary) -> Mem<Vec<Cell>> {
+    let mut values = Vec::new(alloc);
+    for pair in summary.pairs.as_slice() {
+        values.push(Cell::of(alloc, pair.value.lent())?)?;
+    }
+    Ok(values)
+}
+
+/// Of counts the cells that there are, and those that are more than one in 21 of them: how many, and a digest.
+fn frequent_of(value: &CountShown) -> (u64, u64, u64) {
+    let mut many: u64 = 0;
+    let mut found: u64 = 0;
+    for count in value.counts.as_slice() {
+        let count = *count;
+        if count.wrapping_mul(21) > value.n {
+            many = many.wrapping_add(1);
+            found = found.wrapping_mul(31).wrapping_add(count);
+        }
+    }
+    (value.n, many, found)
+}
+
+/// The nanoseconds of the counts of values, and what is frequent of them.
+fn counted<T: Table>(rt: &HostRuntime, view: &CountOf, table: &T) -> Mem<(u128, (u64, u64, u64))> {
+    let (best, counts) = measured(rt, view, table)?;
+    let value = view.value(rt.alloc(), &counts)?;
+    Ok((best, frequent_of(&value)))
+}
+
+/// The nanoseconds of heavy hitters, and the view of the counts of their values.
+fn candidates<T: Table>(rt: &HostRuntime, col: u32, table: &T) -> Mem<(u128, CountOf)> {
+    let (best, summary) = measured(rt, &MisraGries::new(col, 20), table)?;
+    let values = values_of(rt.alloc(), &summary)?;
+    Ok((best, CountOf::new(col, values)))
+}
+
+fn show_frequent<T: Table>(rt: &HostRuntime, rows: &str, col: u32, table: &T) -> io::Result<()> {
+    let Ok((first, view)) = candidates(rt, col, table) else {
+        return println!(rt; "no memory");
+    };
+    let shown = counted(rt, &view, table);
+    drop(view);
+    match shown {
+        Ok((second, (n, many, found))) => {
+            println!(rt; "{rows} {first} {second} {n} {many} {found}")
+        }
+        Err(_) => println!(rt; "no memory"),
+    }
+}
+
+fn show_counted<T: Table>(rt: &HostRuntime, rows: &str, table: &T) -> io::Result<()> {
+    show_hitters(rt, rows, 0, 20, table)?;
+    show_hitters(rt, rows, 1, 20, table)?;
+    show_frequent(rt, rows, 0, table)?;
+    show_frequent(rt, rows, 1, table)?;
+    show_hitters(rt, rows, 2, 20, table)?;
+    show_hitters(rt, rows, 2, 1000, table)
+}
+
 fn whole_table(alloc: Global, rows: u32) -> Mem<PartTable>
     requires { rows ≤ MOST_ROWS }
 {
@@ -425,6 +595,12 @@ fn half_table(alloc: Global, rows: u32) -> Mem<PartTable>
 {
     let member = half(alloc, rows)?;
     table_of(alloc, rows, member)
+}
+
+fn whole_counted(alloc: Global, rows: u32) -> Mem<PartTable>
+    requires { rows ≤ MOST_ROWS }
+{
+    counted_table(alloc, rows, Member::full(rows))
 }
 
 fn main(rt: HostRuntime) -> io::Result<()> {
@@ -442,7 +618,11 @@ fn main(rt: HostRuntime) -> io::Result<()> {
     let Ok(half) = half_table(rt.alloc(), rows) else {
         return println!(rt; "no memory");
     };
-    show_views(&rt, "half", &half)
+    show_views(&rt, "half", &half)?;
+    let Ok(counted) = whole_counted(rt.alloc(), rows) else {
+        return println!(rt; "no memory");
+    };
+    show_counted(&rt, "all", &counted)
 }
 RT
     cat > crates/views/proofs/numbers/Invariants.antt <<'ANTT'
@@ -454,6 +634,9 @@ abbrev pub invariant-loop-row : goal.invariant-loop-row
 invariant-loop-row l = (l.column.kind ≡ kind.Int) × (length l.column.cells ≡ l.row)
 ANTT
     sed -e 's/kind.Int/kind.Text/' -e 's/views.proofs.numbers/views.proofs.carriers/' crates/views/proofs/numbers/Invariants.antt > crates/views/proofs/carriers/Invariants.antt
+    for column in few different; do
+        sed "s/views.proofs.numbers/views.proofs.$column/" crates/views/proofs/numbers/Invariants.antt > "crates/views/proofs/$column/Invariants.antt"
+    done
     cat > crates/views/proofs/half/Invariants.antt <<'ANTT'
 use Rattle.hv_member.specs.Sets.{IsSetBelow}
 use Rattle.views.proofs.half.Given as goal
@@ -492,10 +675,15 @@ CHARTS = ["histogram", "heat map", "trellis"]
 # the numbers above which the pages begin
 PAGES = {"page near the start": -999_000_000, "page in the middle": 0, "page near the end": 996_000_000}
 VIEWS = ["range", "distinct", *CHARTS, "next rows", "find", *PAGES]
+# of the second table, of all its rows: the column and k of each, and its target
+HEAVY = {("heavy", "few", 20): 5, ("heavy", "texts", 20): 10, ("frequent", "few", 20): 10, ("frequent", "texts", 20): 20}
+HEAVY |= {("heavy", "different", 20): None, ("heavy", "different", 1000): 40}
 TARGETS = {("range", "all"): 1.5, ("histogram", "all"): 2.5, ("heat map", "all"): 8, ("trellis", "all"): 7, ("range", "half"): 3}
 TARGETS |= {("next rows", "all"): 6, ("find", "all"): 10}
+TARGETS |= {(view, "all"): target for view, target in HEAVY.items()}
 TEXTS = ["AA", "AS", "B6", "DL", "F9", "HA", "UA", "WN"]
 MOST_TIMES = 4 / 3
+MOST_MB = 64
 
 def rows():
     """The number of each row or None, the place of its text among eight, and whether it is kept."""
@@ -540,15 +728,80 @@ def keyed(some):
     for above in PAGES.values():
         yield page([(x,) for x, _, _ in some], 500, above)
 
+def columns():
+    """The columns of the second table: few numbers, texts by their places among eight, numbers that are all different."""
+    state, few, texts, different = 1, [], [], []
+    for _ in range(ROWS):
+        state = (state * 6364136223846793005 + 1442695040888963407) % 2**64
+        word = state >> 32
+        few.append(word // 2 % 1000 + 8 if word % 2 else word // 2 % 8)
+        texts.append((state >> 40) % 8)
+        different.append(state >> 1)
+    if len(set(different)) != ROWS:
+        sys.exit("views.sh: the different numbers aren't")
+    return {"few": few, "texts": texts, "different": different}
+
+def cut(pairs, k):
+    """At most k pairs: each loses the largest estimate that isn't kept."""
+    less = sorted(pairs.values(), reverse=True)[k] if len(pairs) > k else 0
+    return collections.Counter({value: estimate - less for value, estimate in pairs.items() if estimate > less})
+
+def hitters(values, k):
+    """The heavy hitters as hv_heavy finds them: counts that are cut where there are more than 4,096 + k, and at the end."""
+    done, counts = collections.Counter(), collections.Counter()
+    for value in values:
+        counts[value] += 1
+        if len(counts) > 4096 + k:
+            done, counts = cut(done + counts, k), collections.Counter()
+    return cut(done + counts, k)
+
+def are_lawful(values, k, pairs):
+    """Whether no estimate is too high, and what is lost of each count is within the bounds."""
+    left = len(values) - sum(pairs.values())
+    return len(pairs) <= k and all(0 <= count - pairs[value] and (k + 1) * (count - pairs[value]) <= left for value, count in collections.Counter(values).items())
+
+def heavy_shown(kind, column, values, k):
+    """What is shown of heavy hitters, or of what is frequent."""
+    if kind == "frequent":
+        counts = collections.Counter(values)
+        frequent = [counts[value] for value in sorted(counts) if counts[value] * (k + 1) > ROWS]
+        return list(map(str, [ROWS, len(frequent), digest(frequent)]))
+    pairs = hitters(values, k)
+    if not are_lawful(values, k, pairs):
+        sys.exit("views.sh: the heavy hitters of plain Python aren't")
+    rising = sorted(pairs)
+    ends = [rising[0], rising[-1]] if rising and column != "texts" else [0, 0]
+    return list(map(str, [0, ROWS, len(rising), digest(pairs[value] for value in rising), *ends]))
+
 def digest(counts):
     found = 0
     for count in counts:
         found = (found * 31 + count) % 2**64
     return found
 
+def said(view):
+    """A view's name; of heavy hitters and of what is frequent with the column and k."""
+    return view if isinstance(view, str) else f"{view[0]} ({view[1]}, k {view[2]})"
+
 def lines_of(program):
     output = subprocess.run([program, str(ROWS)], stdout=subprocess.PIPE, check=True, text=True).stdout
     return [line.split() for line in output.splitlines()]
+
+def kilobytes(process, key):
+    """A number of kilobytes that the system tells of a process."""
+    with open(f"/proc/{process.pid}/status") as told:
+        return next(int(line.split()[1]) for line in told if line.startswith(key + ":"))
+
+def grown():
+    """How many megabytes the program takes at most for the heavy hitters of different numbers, above what it has when all tables are made."""
+    with subprocess.Popen([views, str(ROWS)], stdout=subprocess.PIPE, text=True) as process:
+        before = most = 0
+        for place, _ in enumerate(process.stdout):
+            if place == len(ORDER) - 3:
+                before = kilobytes(process, "VmRSS")
+            elif place == len(ORDER) - 1:
+                most = kilobytes(process, "VmHWM")
+    return (most - before) / 1024
 
 all_rows = list(rows())
 kept_rows = [row for row in all_rows if row[2]]
@@ -557,6 +810,10 @@ wanted = {}
 for name, some in (("all", all_rows), ("half", kept_rows)):
     found = [[str(digest(counted))] for counted in charts(some)]
     wanted |= {(view, name): value for view, value in zip(VIEWS[2:], [*found, *keyed(some)], strict=True)}
+columns_of = columns()
+wanted |= {(view, "all"): heavy_shown(view[0], view[1], columns_of[view[1]], view[2]) for view in HEAVY}
+del columns_of
+ORDER = [(view, name) for name in counts for view in VIEWS] + [(view, "all") for view in HEAVY]
 best = {}
 def note(name, took):
     best[name] = min(took, best.get(name, took))
@@ -564,32 +821,37 @@ def note(name, took):
 for _ in range(RUNS):
     loops = {name: (took, ranged) for name, took, *ranged in lines_of(plain)}
     shown = lines_of(views)
-    if [line[0] for line in shown] != [name for name in counts for _ in VIEWS]:
+    if [line[0] for line in shown] != [name for _, name in ORDER]:
         sys.exit("views.sh: the views gave no values")
-    for view, (name, took, *value) in zip(VIEWS * 2, shown, strict=True):
+    for (view, _), (name, took, *value) in zip(ORDER, shown, strict=True):
         loop, ranged = loops[name]
+        took = int(took)
+        if view[0] == "frequent":
+            took += int(value.pop(0))
         if value != {"range": ranged, "distinct": ["500", "1"]}.get(view, wanted.get((view, name))):
-            sys.exit(f"views.sh: the {view} of {name} rows is wrong")
-        note((view, name), int(took))
+            sys.exit(f"views.sh: {said(view)} of {name} rows: wrong")
+        note((view, name), took)
         note(("loop", name), int(loop))
 
 loop = best["loop", "all"] / ROWS
 print(f"one plain loop: {loop:.2f} nanoseconds a row; over a list of half the rows {best['loop', 'half'] / counts['half']:.2f} a kept row")
 failed = False
-for name in counts:
-    for view in VIEWS:
-        each = best[view, name] / counts[name]
-        times = each / loop
-        line = f"{view} of {name} rows: {each:.2f} nanoseconds a row, {times:.2f} plain loops"
-        target = TARGETS.get((view, name))
-        if target is not None:
-            line += f"; target of {target}: " + ("met" if times <= target else "MISSED")
-            failed |= times > 1.5 * target
-        print(line)
+for view, name in ORDER:
+    each = best[view, name] / counts[name]
+    times = each / loop
+    line = f"{said(view)} of {name} rows: {each:.2f} nanoseconds a row, {times:.2f} plain loops"
+    target = TARGETS.get((view, name))
+    if target is not None:
+        line += f"; target of {target}: " + ("met" if times <= target else "MISSED")
+        failed |= times > 1.5 * target
+    print(line)
 pages = [best[view, "all"] for view in PAGES]
 times = max(pages) / min(pages)
 print(f"the dearest of the three pages of all rows costs {times:.2f} times the cheapest; target of {MOST_TIMES:.2f}: " + ("met" if times <= MOST_TIMES else "MISSED"))
 failed |= times > 1.5 * MOST_TIMES
+megabytes = grown()
+print(f"heavy hitters of 1,000,000 different numbers take {megabytes:.1f} MB above the tables; target of {MOST_MB}: " + ("met" if megabytes <= MOST_MB else "MISSED"))
+failed |= megabytes > 1.5 * MOST_MB
 sys.exit(1 if failed else 0)
 PY
 python3 "$work/measure.py" "$work/repo/crates/views/out/views" "$work/plain"
