@@ -1,0 +1,2 @@
+mod LruLemmas
+pub mod ResultsLemmas
