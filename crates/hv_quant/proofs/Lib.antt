@@ -1,2 +1,3 @@
+pub mod PairFacts
 pub mod QuantileFacts
 pub mod SampleFacts

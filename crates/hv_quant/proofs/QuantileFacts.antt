@@ -135,6 +135,6 @@ quantiles-more q rows j place d row keys cells at within is key so_far =
     (λ i. so_far i ++ one i ∷ []) ∙ sym (map-range_with_len_more (quantile_at q rows) 0 j j (omega arith))
 
 -- values with equal parts are equal
-pub same_value : (keys more : List (List Cell)) (m n : ℕ) → keys ≡ more → m ≡ n
-    → ◌≡◌ {A = SampleValue} (record { quantiles = keys; rows = m }) (record { quantiles = more; rows = n })
-same_value keys more m n quantiles rows = λ i. record { quantiles = quantiles i; rows = rows i }
+pub same_value : (keys more : List (List Cell)) (m n seed : ℕ) → keys ≡ more → m ≡ n
+    → ◌≡◌ {A = SampleValue} (record { quantiles = keys; rows = m; seed = seed }) (record { quantiles = more; rows = n; seed = seed })
+same_value keys more m n seed quantiles rows = λ i. record { quantiles = quantiles i; rows = rows i; seed = seed }

@@ -1,5 +1,5 @@
 pub mod Hashes
-pub mod KeptRows
+pub mod Pairs
 pub mod Quantiles
 pub mod Sample
 pub mod SampleLaws

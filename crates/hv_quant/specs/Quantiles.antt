@@ -6,8 +6,10 @@ use Rattle.std.specs.declared.cmp.Ordering.{Ordering}
 use Rattle.hv_value.specs.declared.cell.Cell.{Cell}
 use Rattle.hv_value.specs.declared.orders.OrderKey.{OrderKey}
 use Rattle.hv_value.specs.Orders.{compare_keys}
+use Rattle.hv_value.specs.Rows.{Row}
 use Rattle.hv_sketch.specs.Rising.{rising}
-use Rattle.hv_quant.specs.Sample.{by_place, kept}
+use Rattle.hv_quant.specs.Sample.{by_place, kept, sample_of}
+use Rattle.hv_quant.specs.declared.sample.Sample.{Sample}
 use Rattle.hv_quant.specs.declared.value.SampleValue.{SampleValue}
 use Rattle.hv_quant.specs.declared.summary.SampledRow.{SampledRow}
 
@@ -32,6 +34,10 @@ quantiles_in q (first ∷ rest) = map (quantile_at q (first ∷ rest)) (range_wi
 abbrev pub quantiles_of : List OrderKey → ℕ → List SampledRow → List (List Cell)
 quantiles_of keys q sample = quantiles_in q (rising (by_key keys) kept sample)
 
--- with the number of its rows
-abbrev pub value_of : List OrderKey → ℕ → List SampledRow → SampleValue
-value_of keys q sample = record { quantiles = quantiles_of keys q sample; rows = length sample }
+-- with the number of its rows and its seed
+abbrev pub value_of : ℕ → List OrderKey → ℕ → List SampledRow → SampleValue
+value_of seed keys q sample = record { quantiles = quantiles_of keys q sample; rows = length sample; seed = seed }
+
+-- the value of a view over a list of rows
+abbrev pub value_over : Sample → List Row → SampleValue
+value_over view rows = value_of view.seed view.order view.q (sample_of view.seed view.k view.order rows)

@@ -2,7 +2,9 @@
 #![tactic(auto)]
 
 mod compare;
+mod keyed;
 mod laws;
+mod nearest;
 mod same;
 mod sample;
 mod sampling;

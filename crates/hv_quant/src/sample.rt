@@ -5,9 +5,10 @@ ghost use Rattle.hv_sketch.specs.Rising.{IsRising, put_all};
 ghost use Rattle.hv_quant.specs.Sample.{by_word, kept};
 
 use crate::compare::WordRanking;
-use crate::sampling::{is_past, put_row};
+use crate::keyed::{WORDS, keyed_rows};
+use crate::nearest::Nearest;
 use crate::{SampleSummary, SampledRow, Sampling};
-use hv_next::{fits_keys, key_at};
+use hv_next::fits_keys;
 use hv_pick::Walker;
 use hv_sketch::{Gather, Vizketch, gather_rows, joined};
 use hv_value::{Listed, Mem, Order, Schema, Table};
@@ -53,35 +54,27 @@ impl Gather for Sample {
 
     type Gathered = Sampling;
 
-    ghost gathers = { λ view part rows kept. IsSampling view.seed view.k view.order part rows kept };
+    ghost gathers = { λ view part rows kept. IsSampling view.seed view.k part rows kept };
 
     ghost takes = { λ view columns. AreInColumns columns view.order };
 
     fn start<T: Table>(&self, alloc: Global, table: &T) -> Mem<Sampling> {
         Ok(Sampling {
             walker: Walker::new(self.seed, table.part()),
-            rows: Listed::new(alloc),
+            nearest: Nearest::new(alloc),
         })
     }
 
     fn add_row<T: Table>(
         &self,
-        alloc: Global,
+        _alloc: Global,
         kept: &mut Sampling,
-        table: &T,
+        _table: &T,
         row: u32,
     ) -> Mem<()> {
         let word = kept.walker.at(row);
-        if is_past(kept.rows.as_slice(), self.k, word) {
-            return Ok(());
-        }
-        let sampled = SampledRow {
-            word,
-            part: table.part(),
-            row,
-            key: key_at(alloc, &self.order, table, row)?,
-        };
-        put_row(&mut kept.rows, self.k, sampled)
+        kept.nearest
+            .add(self.k, u64::from(word) * WORDS + u64::from(row))
     }
 }
 
@@ -105,10 +98,12 @@ impl Vizketch for Sample {
     }
 
     fn summarize<T: Table>(&self, alloc: Global, table: &T) -> Mem<SampleSummary> {
-        let sampling = gather_rows(alloc, self, table)?;
-        Ok(SampleSummary {
-            rows: sampling.rows,
-        })
+        // for its clause `whole` alone
+        let _columns = table.schema();
+        let mut nearest = gather_rows(alloc, self, table)?.nearest;
+        nearest.cut(self.k);
+        let rows = keyed_rows(alloc, &self.order, table, nearest.pairs.as_slice())?;
+        Ok(SampleSummary { rows })
     }
 
     fn merge_into(&self, alloc: Global, acc: &mut SampleSummary, d: &SampleSummary) -> Mem<()> {

@@ -133,7 +133,9 @@ fn quantiles_of_two_partitions_are_of_all_their_rows(rt: HostRuntime) -> Result<
     let upward = sample(alloc, false, 10, 4)?;
     let found = of_both(alloc, &upward, &low, &high)?;
     assert!(rt; are(alloc, &upward, &found, &[1, 4, 6, 9])?);
-    assert_eq!(rt; upward.value(alloc, &found)?.rows, 4);
+    let value = upward.value(alloc, &found)?.copied(alloc)?;
+    assert_eq!(rt; value.rows, 4);
+    assert_eq!(rt; value.seed, 5);
     let downward = sample(alloc, true, 10, 2)?;
     let found = of_both(alloc, &downward, &low, &high)?;
     assert!(rt; are(alloc, &downward, &found, &[9, 1])?);

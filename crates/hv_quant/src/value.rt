@@ -4,7 +4,7 @@
 ghost use Rattle.std.specs.Prelude.{◌≡◌, ◌<◌, ◌≤◌, List, length, map, IfOk, IsPermutation};
 ghost use Rattle.std.specs.List.Sorted.{IsSorted};
 ghost use Rattle.hv_value.specs.Rows.{Row};
-ghost use Rattle.hv_quant.specs.Quantiles.{by_key, quantile_place, quantiles_in, quantiles_of, value_of};
+ghost use Rattle.hv_quant.specs.Quantiles.{by_key, quantile_place, quantiles_in, quantiles_of, value_over};
 ghost use Rattle.hv_quant.specs.Sample.{IsSample, sample_of};
 
 use crate::compare::compare_keyed;
@@ -22,19 +22,46 @@ pub struct SampleValue {
     pub quantiles: Listed<Listed<Cell>>,
     /// How many rows the sample has.
     pub rows: u64,
+    /// The seed of the words by which they were sampled.
+    pub seed: u64,
+}
+
+impl SampleValue {
+    /// An equal value.
+    pub fn copied(&self, alloc: Global) -> Mem<SampleValue>
+        ensures { IfOk result (λ value. value ≡ self.now) }
+    {
+        Ok(SampleValue {
+            quantiles: copied_keys(alloc, self.quantiles.as_slice())?,
+            rows: self.rows,
+            seed: self.seed,
+        })
+    }
+}
+
+/// Equal keys, in memory of their own.
+fn copied_keys(alloc: Global, keys: &[Listed<Cell>]) -> Mem<Listed<Listed<Cell>>>
+    ensures { IfOk result (λ copy. copy ≡ keys.now) }
+{
+    let mut copy = Listed::new(alloc);
+    for key in keys {
+        copy.push(copied_cells(alloc, key.as_slice())?)?;
+    }
+    Ok(copy)
 }
 
 impl Sample {
-    /// The quantiles of a sample, and how many rows it has.
+    /// The quantiles of a sample, how many rows it has, and its seed.
     pub fn value(&self, alloc: Global, s: &SampleSummary) -> Mem<SampleValue>
         ensures { (rows : List Row) → IsSample self.now.seed self.now.k self.now.order rows s.now → IfOk result (λ value.
-            value ≡ value_of self.now.order self.now.q (sample_of self.now.seed self.now.k self.now.order rows)) }
+            value ≡ value_over self.now rows) }
     {
         let rows = sorted_rows(alloc, &self.order, s.rows.as_slice())?;
         let quantiles = quantiles_in(alloc, rows.as_slice(), self.q)?;
         Ok(SampleValue {
             quantiles,
             rows: s.rows.as_slice().len() as u64,
+            seed: self.seed,
         })
     }
 }

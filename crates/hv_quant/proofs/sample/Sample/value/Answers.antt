@@ -17,4 +17,4 @@ returns c = λ rows h.
     let keys : c.in_ok-quantiles.quantiles ≡ quantiles_of view.order view.q (sample_of view.seed view.k view.order rows) =
     c.in_ok-quantiles.ensures ∙ ap (quantiles_in view.q) (c.as_slice-2.ensures.value ∙ sorted ∙ ap (rising (by_key view.order) kept) h.is) in
     let many : length c.as_slice-3.result.now ≡ length (sample_of view.seed view.k view.order rows) = ap length (c.as_slice-3.ensures ∙ h.is) in
-    same_value _ _ _ _ keys many
+    same_value _ _ _ _ view.seed keys many
