@@ -9,13 +9,14 @@
 # the end: of all rows, and of a table that was filtered to half of them, whose rows are listed. Then, of a table of
 # 1,008 different numbers (eight of them in one row of sixteen each), of the texts and of numbers that are all
 # different: the heavy hitters with k 20, of the last with k 1,000 too, and what is frequent, which is the heavy hitters
-# and then the counts of their values. Checks each range against the plain program's and all else against plain
-# Python's, the heavy hitters by hv_heavy's way to cut, and prints the nanoseconds a row, the best of the passes of five
+# and then the counts of their values. Of all rows and of half of them also a sample of 10,000 rows with 100 quantiles of
+# the numbers. Checks each range against the plain program's and all else against plain Python's, the heavy hitters by
+# hv_heavy's way to cut, the sample by PCG's words, and prints the nanoseconds a row, the best of the passes of five
 # runs. Targets: of all rows the range at most 1.5 plain loops, the histogram 2.5, the heat map 8, the trellis 7, the
-# next rows 6, the search for a text 10; the heavy hitters of the 1,008 numbers 5, of the texts 10, frequent numbers and
-# texts twice that, the heavy hitters of different numbers with k 1,000 40, and at most 64 MB above the tables; the
-# range of half the rows at most 3 plain loops a kept row; of all rows no page more than a third dearer than another. Ends with 1 where an answer is wrong, or
-# a target is missed by more than half.
+# next rows 6, the search for a text 10, the sample 6; the heavy hitters of the 1,008 numbers 5, of the texts 10,
+# frequent numbers and texts twice that, the heavy hitters of different numbers with k 1,000 40, and at most 64 MB above
+# the tables; the range of half the rows at most 3 plain loops a kept row; of all rows no page more than a third dearer
+# than another. Ends with 1 where an answer is wrong, or a target is missed by more than half.
 #
 # The program is made, proved and built in a temporary folder, over copies of the crates; with a folder as its
 # argument, in that folder, which stays.
@@ -31,7 +32,7 @@ else
     work=$(mktemp -d) || exit 1
     trap 'rm -rf "$work"' EXIT
 fi
-crates="hv_value hv_member hv_column hv_part hv_sketch hv_range hv_bucket hv_hist hv_grid hv_next hv_heavy hv_expr hv_find"
+crates="hv_value hv_member hv_column hv_part hv_sketch hv_range hv_bucket hv_hist hv_grid hv_next hv_heavy hv_pick hv_quant hv_expr hv_find"
 
 make_program() {
     mkdir -p "$work/repo/crates" && cd "$work/repo" && git init -q . || return 1
@@ -39,14 +40,15 @@ make_program() {
         sed -n "/^$crate:/p" "$1/crates.txt" >> crates.txt
         mkdir "crates/$crate" && cp -r "$1/crates/$crate/src" "$1/crates/$crate/specs" "$1/crates/$crate/proofs" "crates/$crate/"
     done
-    sed -n "s/^hv_find: hv_value hv_sketch hv_next hv_expr/views: $crates/p" "$1/crates.txt" >> crates.txt
+    sed -n "s/^hv_find: hv_value hv_sketch hv_next hv_expr\(.*\)/views: $crates\1 rand_pcg rand_core/p" "$1/crates.txt" >> crates.txt
     mkdir -p crates/views/src crates/views/specs crates/views/proofs/numbers crates/views/proofs/carriers crates/views/proofs/few crates/views/proofs/different crates/views/proofs/half
     : > crates/views/specs/Lib.antt
     : > crates/views/proofs/Lib.antt
     cat > crates/views/src/main.rt <<'RT'
 //! Takes views of a column of whole numbers and one of texts, over all rows and over half of them, in fifteen passes.
 //! Prints for each the rows, the nanoseconds of the best pass, and its value: of a chart a digest of its counts, of next
-//! rows how many come before, the keys, their rows and two of their numbers. Then takes heavy hitters, and the counts of their
+//! rows how many come before, the keys, their rows and two of their numbers, of a sample its rows and a digest of its
+//! quantiles. Then takes heavy hitters, and the counts of their
 //! values, of columns of few numbers, of texts and of numbers that are all different.
 #![tactic(auto)]
 
@@ -65,6 +67,7 @@ use hv_hist::Histogram;
 use hv_member::Member;
 use hv_next::{NextRows, NextSummary};
 use hv_part::PartTable;
+use hv_quant::{Sample, quantiles};
 use hv_range::{Distinct, Range, RangeSummary};
 use hv_sketch::{Counts, Vizketch};
 use hv_value::{Cell, CellRef, Kind, Mem, Memory, Order, OrderKey, Schema, Table, Text};
@@ -325,7 +328,8 @@ fn show_views<T: Table>(rt: &HostRuntime, rows: &str, table: &T) -> io::Result<(
     show_found(rt, rows, with_an_a(rt.alloc()), table)?;
     show_page(rt, rows, keys_above(rt.alloc(), NEAR_START), table)?;
     show_page(rt, rows, keys_above(rt.alloc(), MIDDLE), table)?;
-    show_page(rt, rows, keys_above(rt.alloc(), NEAR_END), table)
+    show_page(rt, rows, keys_above(rt.alloc(), NEAR_END), table)?;
+    show_quantiles(rt, rows, numbers_sampled(rt.alloc()), table)
 }
 
 /// Counts in their order as one number, after others.
@@ -409,6 +413,12 @@ fn with_an_a(alloc: Global) -> Mem<Find> {
     Ok(Find::new(cols, test, order, None))
 }
 
+/// A sample of 10,000 rows, for 100 quantiles of the numbers.
+fn numbers_sampled(alloc: Global) -> Mem<Sample> {
+    let order = by_numbers(alloc, false)?;
+    Ok(Sample::new(order, 5, 10_000, 100))
+}
+
 /// The number that ends a key, 0 where it is missing.
 fn last_number(key: &[Cell]) -> i64 {
     let mut number = 0;
@@ -489,6 +499,39 @@ fn show_found<T: Table>(
         Ok((best, (above, before, first))) => {
             println!(rt; "{rows} {best} {above} {before} {first}")
         }
+        Err(_) => println!(rt; "no memory"),
+    }
+}
+
+/// The numbers of keys in their order as one.
+fn digest_of_keys(keys: &[Vec<Cell>]) -> u64 {
+    let mut found: u64 = 0;
+    for key in keys {
+        found = found.wrapping_mul(31).wrapping_add(last_number(key.as_slice()).cast_unsigned());
+    }
+    found
+}
+
+/// The nanoseconds of a sample, how many rows it has, and the digest of its quantiles.
+fn sampled<T: Table>(rt: &HostRuntime, view: &Sample, table: &T) -> Mem<(u128, (usize, u64))> {
+    let (best, summary) = measured(rt, view, table)?;
+    let keys = quantiles(rt.alloc(), view, &summary)?;
+    Ok((best, (summary.rows.as_slice().len(), digest_of_keys(keys.as_slice()))))
+}
+
+fn show_quantiles<T: Table>(
+    rt: &HostRuntime,
+    rows: &str,
+    view: Mem<Sample>,
+    table: &T,
+) -> io::Result<()> {
+    let Ok(view) = view else {
+        return println!(rt; "no memory");
+    };
+    let shown = sampled(rt, &view, table);
+    drop(view);
+    match shown {
+        Ok((best, (sample, digest))) => println!(rt; "{rows} {best} {sample} {digest}"),
         Err(_) => println!(rt; "no memory"),
     }
 }
@@ -674,16 +717,26 @@ LO, HI = -900_000_000, 900_000_000
 CHARTS = ["histogram", "heat map", "trellis"]
 # the numbers above which the pages begin
 PAGES = {"page near the start": -999_000_000, "page in the middle": 0, "page near the end": 996_000_000}
-VIEWS = ["range", "distinct", *CHARTS, "next rows", "find", *PAGES]
+QUANTILES = "quantiles k 10,000"
+VIEWS = ["range", "distinct", *CHARTS, "next rows", "find", *PAGES, QUANTILES]
 # of the second table, of all its rows: the column and k of each, and its target
 HEAVY = {("heavy", "few", 20): 5, ("heavy", "texts", 20): 10, ("frequent", "few", 20): 10, ("frequent", "texts", 20): 20}
 HEAVY |= {("heavy", "different", 20): None, ("heavy", "different", 1000): 40}
 TARGETS = {("range", "all"): 1.5, ("histogram", "all"): 2.5, ("heat map", "all"): 8, ("trellis", "all"): 7, ("range", "half"): 3}
-TARGETS |= {("next rows", "all"): 6, ("find", "all"): 10}
+TARGETS |= {("next rows", "all"): 6, ("find", "all"): 10, (QUANTILES, "all"): 6}
 TARGETS |= {(view, "all"): target for view, target in HEAVY.items()}
 TEXTS = ["AA", "AS", "B6", "DL", "F9", "HA", "UA", "WN"]
 MOST_TIMES = 4 / 3
 MOST_MB = 64
+
+def words():
+    """The word of each row of the first partition with seed 5: those of PCG's XSH RR 64/32, on stream 0."""
+    multiplier, increment = 6364136223846793005, 1
+    state = ((5 + increment) * multiplier + increment) % 2**64
+    for _ in range(ROWS):
+        mixed, turn = ((state >> 18 ^ state) >> 27) % 2**32, state >> 59
+        yield (mixed >> turn | mixed << 32 - turn) % 2**32
+        state = (state * multiplier + increment) % 2**64
 
 def rows():
     """The number of each row or None, the place of its text among eight, and whether it is kept."""
@@ -719,6 +772,12 @@ def page(keys, count, above=None):
     first = heapq.nsmallest(count, some, rank)
     shown = [len(keys) - sum(rows[key] for key in some), len(first), sum(rows[key] for key in first), first[0][-1] or 0, first[-1][-1] or 0]
     return list(map(str, shown))
+
+def quantiles(some):
+    """What is shown of 100 quantiles of the numbers of 10,000 rows, of numbers or None each after its word and its row's number."""
+    sample = sorted((x is not None, x or 0) for _, _, x in heapq.nsmallest(10_000, some))
+    places = [j * (len(sample) - 1) // 99 for j in range(100)]
+    return [str(len(sample)), str(digest(sample[place][1] for place in places))]
 
 def keyed(some):
     """What is shown of the next rows, of the search, and of each page."""
@@ -809,7 +868,8 @@ counts = {"all": len(all_rows), "half": len(kept_rows)}
 wanted = {}
 for name, some in (("all", all_rows), ("half", kept_rows)):
     found = [[str(digest(counted))] for counted in charts(some)]
-    wanted |= {(view, name): value for view, value in zip(VIEWS[2:], [*found, *keyed(some)], strict=True)}
+    sample = quantiles((word, row, x) for row, (word, (x, _, kept)) in enumerate(zip(words(), all_rows, strict=True)) if kept or name == "all")
+    wanted |= {(view, name): value for view, value in zip(VIEWS[2:], [*found, *keyed(some), sample], strict=True)}
 columns_of = columns()
 wanted |= {(view, "all"): heavy_shown(view[0], view[1], columns_of[view[1]], view[2]) for view in HEAVY}
 del columns_of
