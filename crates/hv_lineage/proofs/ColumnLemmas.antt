@@ -1,10 +1,11 @@
 -- Columns chosen one by one.
 use Rattle.std.proofs.Common.{◌≡◌, ◌<◌, ◌+◌, ◌∷◌, ◌++◌, [], ℕ, zero, suc, List, Bool, Option, Some, None, true, false, refl, subst, sym, ap, length, get_or, take, add-one, arith}
-use Rattle.std.specs.Prelude.{◌&&◌, slice_get}
+use Rattle.std.specs.Prelude.{◌&&◌, ◌||◌, option_map, slice_get}
 use Rattle.std.specs.List.{AllByRecursion, list_all, cons_option}
 use Rattle.hv_value.specs.declared.cell.Kind.{Kind}
 use Rattle.hv_value.specs.Schema.{Columns}
 use Rattle.hv_lineage.specs.Made.{column_named, picked}
+use Rattle.hv_lineage.specs.Refusals.{has_column, have_common}
 
 -- one more element
 pub take-next : {X : Type 0} (xs : List X) (j : ℕ) (x : X) → slice_get xs j ≡ Some x → take (j + 1) xs ≡ take j xs ++ x ∷ []
@@ -59,3 +60,31 @@ pub all-at : {X : Type 0} (P : X → Type 0) (xs : List X) (j : ℕ) (x : X) →
 all-at P [] j x all within at = absurd (omega (arith, within))
 all-at P (y ∷ xs) zero x all within at = subst P (sym at) all.0
 all-at P (y ∷ xs) (suc j) x all within at = all-at P xs j x all.1 (omega (arith, within)) at
+
+-- one more right column whose name the left hasn't
+pub common-next : (left right : Columns) (j : ℕ) (name : List ℕ) → option_map (λ column. column.0) (slice_get right j) ≡ Some name
+    → have_common left (take j right) ≡ false → has_column left name ≡ false → have_common left (take (j + 1) right) ≡ false
+common-next left right j name there none here = rw add-one (from right j there none)
+  where
+    from : (columns : Columns) (j : ℕ) → option_map (λ column. column.0) (slice_get columns j) ≡ Some name
+        → have_common left (take j columns) ≡ false → have_common left (take (suc j) columns) ≡ false
+    from [] j there none = absurd (cc there)
+    from (first ∷ columns) zero there none = let same : first.0 ≡ name = cc there in rw (same, here) refl
+    from (first ∷ columns) (suc j) there none = by (has_column left first.0) none (from columns j there)
+      where
+        by : (b : Bool) → (b || have_common left (take j columns)) ≡ false
+            → (have_common left (take j columns) ≡ false → have_common left (take (suc j) columns) ≡ false)
+            → (b || have_common left (take (suc j) columns)) ≡ false
+        by true none more = absurd (cc none)
+        by false none more = more none
+
+-- a right column whose name the left has
+pub common-there : (left right : Columns) (j : ℕ) (name : List ℕ) → option_map (λ column. column.0) (slice_get right j) ≡ Some name
+    → has_column left name ≡ true → have_common left right ≡ true
+common-there left [] j name there here = absurd (cc there)
+common-there left (first ∷ right) zero name there here = let same : first.0 ≡ name = cc there in rw (same, here) refl
+common-there left (first ∷ right) (suc j) name there here = by (has_column left first.0) (common-there left right j name there here)
+  where
+    by : (b : Bool) → have_common left right ≡ true → (b || have_common left right) ≡ true
+    by true rest = refl
+    by false rest = rest

@@ -1,4 +1,5 @@
 pub mod Bases
+pub mod Combining
 pub mod Flat
 pub mod Hashes
 pub mod Kept

@@ -1,5 +1,5 @@
 -- Lineages: a base and a term over it, and what each lineage keeps.
-use Rattle.std.specs.Prelude.{ℕ, ◌+◌, ◌≡◌, ◌≤◌, ◌⊎◌, List, true, Option, Some, None}
+use Rattle.std.specs.Prelude.{ℕ, ◌+◌, ◌≡◌, ◌<◌, ◌≤◌, ◌^◌, ◌⊎◌, List, true, Option, Some, None}
 use Rattle.std.specs.Option.{option_or}
 use Rattle.hv_value.specs.Schema.{Columns}
 use Rattle.hv_expr.specs.declared.expr.Expr.{Expr}
@@ -14,7 +14,7 @@ use Rattle.hv_lineage.specs.declared.term.Term.TheVariants as term
 use Rattle.hv_lineage.specs.declared.term.TheConstants.{MAX_TERM_DEPTH, MAX_TERM_NODES}
 use Rattle.hv_lineage.specs.Bases.{IsFitBase, base_columns, base_parts}
 use Rattle.hv_lineage.specs.Made.{columns_of}
-use Rattle.hv_lineage.specs.Refusals.{choice_refusal, deep_refusal, expr_refusal, name_refusal, pred_refusal}
+use Rattle.hv_lineage.specs.Refusals.{choice_refusal, deep_refusal, expr_refusal, how_refusal, name_refusal, pred_refusal}
 use Rattle.hv_lineage.specs.Sizes.{term_depth, term_size}
 
 -- what contracts see of a lineage: its base, and the term over it
@@ -65,12 +65,19 @@ pub record IsFitColumn (columns : Columns) (name : List ℕ) (expr : Expr) : Typ
   pub named : name_refusal columns name (kind_of columns expr) ≡ None
   pub factors : has_fit_factors expr ≡ true
 
+-- a sample can be made by a seed, one of 64 bits, at a threshold, of 2^32nds
+pub record IsFitSample (seed threshold : ℕ) : Type 0 where
+  pub word : seed < 2 ^ 64
+  pub within : threshold ≤ 2 ^ 32
+
 -- a node can be used over a base with these columns
 abbrev pub IsFitNode : Columns → Term-F Term → Type 0
 IsFitNode base Term-F.Base = Unit {0}
 IsFitNode base (Term-F.Filter of pred) = pred_fault (columns_of base of) pred ≡ None
 IsFitNode base (Term-F.Project of cols) = choice_refusal (columns_of base of) cols ≡ None
 IsFitNode base (Term-F.Derive of name expr) = IsFitColumn (columns_of base of) name expr
+IsFitNode base (Term-F.Sample of seed threshold) = IsFitSample seed threshold
+IsFitNode base (Term-F.Combine how left right) = how_refusal how (columns_of base left) (columns_of base right) ≡ None
 
 -- what each lineage keeps
 pub record IsLineage (lineage : TermOver) : Type 0 where

@@ -1,7 +1,9 @@
 -- Why terms are refused: this project's own rule. Where several reasons stand together the first in each definition is told.
-use Rattle.std.specs.Prelude.{ℕ, List, Bool, not, ◌||◌, nat_lt, Option, Some, None, option_map, is_some, if◌then◌else◌, codes}
-use Rattle.std.specs.List.{list_all}
+use Rattle.std.specs.Prelude.{ℕ, List, ◌++◌, Bool, not, ◌||◌, nat_lt, Option, Some, None, option_map, is_some, if◌then◌else◌, codes}
+use Rattle.std.specs.List.{list_all, list_any}
 use Rattle.hv_value.specs.declared.cell.Kind.{Kind}
+use Rattle.hv_value.specs.contracts.schema.Schema as schema
+use Rattle.hv_value.specs.Same.{same_by}
 use Rattle.hv_value.specs.Schema.{Columns, column_place, is_schema}
 use Rattle.hv_expr.specs.declared.error.ExprErr.{ExprErr}
 use Rattle.hv_expr.specs.declared.error.ExprErr.TheVariants as fault
@@ -10,6 +12,8 @@ use Rattle.hv_expr.specs.declared.pred.Pred.{Pred}
 use Rattle.hv_expr.specs.Checks.{expr_fault, pred_fault}
 use Rattle.hv_lineage.specs.declared.error.LineageErr.{LineageErr}
 use Rattle.hv_lineage.specs.declared.error.LineageErr.TheVariants as err
+use Rattle.hv_lineage.specs.declared.how.How2.{How2}
+use Rattle.hv_lineage.specs.declared.how.How2.TheVariants as how2
 use Rattle.hv_lineage.specs.declared.term.TheConstants.{MAX_TERM_DEPTH, MAX_TERM_NODES}
 use Rattle.hv_lineage.specs.Made.{picked, with_column}
 
@@ -60,3 +64,18 @@ pred_refusal columns pred = option_map refusal_of_fault (pred_fault columns pred
 -- why an expression is
 abbrev pub expr_refusal : Columns → Expr → Option LineageErr
 expr_refusal columns expr = option_map refusal_of_fault (expr_fault columns expr)
+
+-- whether a right column has the name of a left one
+abbrev pub have_common : Columns → Columns → Bool
+have_common left right = list_any (λ column. has_column left column.0) right
+
+-- why columns can't be combined, none where they can: zipped ones have no name in common and make a schema, those of a
+-- union are the same
+abbrev pub how_refusal : How2 → Columns → Columns → Option LineageErr
+how_refusal how2.Zip left right =
+    if have_common left right then Some err.NameClash
+    else if not (is_schema (left ++ right)) then Some err.BadSchema
+    else None
+how_refusal how2.Union left right = if same_by schema.the_row.coded left right then None else Some err.SchemaDiffers
+how_refusal how2.Both left right = None
+how_refusal how2.Minus left right = None

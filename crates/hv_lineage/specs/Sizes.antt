@@ -1,5 +1,5 @@
 -- How deep terms are and how many nodes they have.
-use Rattle.std.specs.Prelude.{ℕ, ◌+◌}
+use Rattle.std.specs.Prelude.{ℕ, ◌+◌, max}
 use Rattle.hv_lineage.specs.declared.term.Term.{Term, fold-Term}
 use Rattle.hv_lineage.specs.declared.term.Term.TheOpen.{Term-F}
 
@@ -9,6 +9,8 @@ node_depth Term-F.Base = 1
 node_depth (Term-F.Filter of pred) = of + 1
 node_depth (Term-F.Project of cols) = of + 1
 node_depth (Term-F.Derive of name expr) = of + 1
+node_depth (Term-F.Sample of seed threshold) = of + 1
+node_depth (Term-F.Combine how left right) = max left right + 1
 
 -- the number of nodes by those of the inner terms: 1 of a base, else one more than their sum
 abbrev pub node_size : Term-F ℕ → ℕ
@@ -16,6 +18,8 @@ node_size Term-F.Base = 1
 node_size (Term-F.Filter of pred) = of + 1
 node_size (Term-F.Project of cols) = of + 1
 node_size (Term-F.Derive of name expr) = of + 1
+node_size (Term-F.Sample of seed threshold) = of + 1
+node_size (Term-F.Combine how left right) = left + right + 1
 
 -- the depth of a term
 unfoldable pub term_depth : Term → ℕ

@@ -7,10 +7,10 @@ ghost use Rattle.std.specs.Hash as fed;
 ghost use Rattle.std.proofs.Common.{ap};
 ghost use Rattle.hv_value.specs.Same.{same_by};
 ghost use Rattle.hv_value.specs.SameLaws.{same_by-decides, same_by-equiv};
-ghost use Rattle.hv_lineage.specs.Hashes.{lineage_writes, term_writes};
+ghost use Rattle.hv_lineage.specs.Hashes.{how_number, lineage_writes, term_writes};
 
 use crate::base::{are_same, are_same_texts};
-use crate::{Lineage, Term};
+use crate::{How2, Lineage, Term};
 use hv_expr::{Expr, Pred};
 use hv_value::Text;
 use std::hash::{Hash, Hasher};
@@ -100,6 +100,30 @@ fn are_same_terms(a: &Term, b: &Term) -> bool
                 && are_same_exprs(expr.get(), value.get())
                 && are_same_terms(of.get(), inner.get())
         }
+        (
+            Term::Sample {
+                of,
+                seed,
+                threshold,
+            },
+            Term::Sample {
+                of: inner,
+                seed: other,
+                threshold: limit,
+            },
+        ) => seed == other && threshold == limit && are_same_terms(of.get(), inner.get()),
+        (
+            Term::Combine { how, left, right },
+            Term::Combine {
+                how: other,
+                left: first,
+                right: second,
+            },
+        ) => {
+            how == other
+                && are_same_terms(left.get(), first.get())
+                && are_same_terms(right.get(), second.get())
+        }
         _ => false,
     }
 }
@@ -108,6 +132,17 @@ fn are_same_names(a: &Text, b: &Text) -> bool
     ensures { IsTrue result ↔ (a.now ≡ b.now) }
 {
     a == b
+}
+
+fn number_of_how(how: How2) -> u8
+    ensures { result ≡ how_number how }
+{
+    match how {
+        How2::Zip => 0,
+        How2::Union => 1,
+        How2::Both => 2,
+        How2::Minus => 3,
+    }
 }
 
 #[tactic(auto, using(crate::proofs::TermNodes::folds), unfolding(crate::specs::Hashes::term_writes))]
@@ -131,6 +166,22 @@ fn hash_term<H: Hasher>(term: &Term, state: &mut H)
             name.get().hash(state);
             expr.get().hash(state);
             hash_term(of.get(), state);
+        }
+        Term::Sample {
+            of,
+            seed,
+            threshold,
+        } => {
+            state.write_u8(4);
+            seed.hash(state);
+            threshold.hash(state);
+            hash_term(of.get(), state);
+        }
+        Term::Combine { how, left, right } => {
+            state.write_u8(5);
+            state.write_u8(number_of_how(*how));
+            hash_term(left.get(), state);
+            hash_term(right.get(), state);
         }
     }
 }

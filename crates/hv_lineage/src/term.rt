@@ -3,7 +3,7 @@
 ghost use Rattle.std.specs.Prelude.{◌≡◌, IfOk};
 ghost use Rattle.hv_lineage.specs.declared.term.Term.TheVariants as term;
 
-use crate::Shared;
+use crate::{How2, Shared};
 use hv_expr::{Expr, Pred};
 use hv_value::{Mem, Text};
 use sqlite_items::{Boxed, Items};
@@ -36,6 +36,18 @@ pub enum Term {
         name: Shared<Text>,
         expr: Shared<Expr>,
     },
+    /// The rows that are picked at a threshold, of 2^32nds: by seed, partition and row number alone.
+    Sample {
+        of: Boxed<Term>,
+        seed: u64,
+        threshold: u64,
+    },
+    /// Two terms over the one base, combined.
+    Combine {
+        how: How2,
+        left: Boxed<Term>,
+        right: Boxed<Term>,
+    },
 }
 
 impl Term {
@@ -57,6 +69,20 @@ impl Term {
                 of: Boxed::new(alloc, of.get().copy(alloc)?)?,
                 name: name.share()?,
                 expr: expr.share()?,
+            },
+            Term::Sample {
+                of,
+                seed,
+                threshold,
+            } => Term::Sample {
+                of: Boxed::new(alloc, of.get().copy(alloc)?)?,
+                seed: *seed,
+                threshold: *threshold,
+            },
+            Term::Combine { how, left, right } => Term::Combine {
+                how: *how,
+                left: Boxed::new(alloc, left.get().copy(alloc)?)?,
+                right: Boxed::new(alloc, right.get().copy(alloc)?)?,
             },
         })
     }
@@ -89,6 +115,28 @@ impl Term {
             of: Boxed::new(alloc, self.copy(alloc)?)?,
             name: Shared::new(alloc, name)?,
             expr: Shared::new(alloc, expr)?,
+        })
+    }
+
+    /// The picked rows of a copy of the term.
+    pub(crate) fn sample(&self, alloc: Global, seed: u64, threshold: u64) -> Mem<Term>
+        ensures { IfOk result (λ made. made ≡ term.Sample self.now seed threshold) }
+    {
+        Ok(Term::Sample {
+            of: Boxed::new(alloc, self.copy(alloc)?)?,
+            seed,
+            threshold,
+        })
+    }
+
+    /// Copies of this term and another, combined.
+    pub(crate) fn combine(&self, alloc: Global, how: How2, right: &Term) -> Mem<Term>
+        ensures { IfOk result (λ made. made ≡ term.Combine how self.now right.now) }
+    {
+        Ok(Term::Combine {
+            how,
+            left: Boxed::new(alloc, self.copy(alloc)?)?,
+            right: Boxed::new(alloc, right.copy(alloc)?)?,
         })
     }
 }

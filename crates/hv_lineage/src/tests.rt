@@ -235,3 +235,68 @@ fn lineages_made_alike_are_equal(rt: HostRuntime) -> Result<(), LineageErr> {
     assert!(rt; hash_of(&*made) != hash_of(&*other));
     Ok(())
 }
+
+// A term that stands on both sides counts twice, so that 127 nodes are reached at depth 7. One more is the last.
+#[test]
+fn one_hundred_and_twenty_eight_nodes_are_the_most(rt: HostRuntime) -> Result<(), LineageErr> {
+    let alloc = rt.alloc();
+    let base = named_base(alloc)?;
+    let mut lineage = named_base(alloc)?;
+    for _ in 0..6u32 {
+        lineage = Lineage::combine(alloc, How2::Both, &lineage, &lineage)?;
+    }
+    assert_eq!(rt; lineage.size(), 127);
+    assert_eq!(rt; lineage.depth(), 7);
+    let full = Lineage::sample(alloc, &lineage, 42, 2147483648)?;
+    assert_eq!(rt; full.size(), 128);
+    assert!(rt; lineage.has_room() && !full.has_room());
+    assert_eq!(rt; filtered(alloc, &full, "x", 0), Some(LineageErr::Deep));
+    assert_eq!(rt;
+        combined(alloc, How2::Minus, &lineage, &base),
+        Some(LineageErr::Deep)
+    );
+    assert_eq!(rt;
+        combined(alloc, How2::Zip, &lineage, &base),
+        Some(LineageErr::NameClash)
+    );
+    Ok(())
+}
+
+fn combined(
+    alloc: Global,
+    how: How2,
+    left: &Arc<Lineage>,
+    right: &Arc<Lineage>,
+) -> Option<LineageErr> {
+    Lineage::combine(alloc, how, left, right).err()
+}
+
+// Bases are compared before columns; a union wants the same columns, and what is zipped no common name.
+#[test]
+fn unlike_lineages_are_not_combined(rt: HostRuntime) -> Result<(), LineageErr> {
+    let alloc = rt.alloc();
+    let base = named_base(alloc)?;
+    let texts = Lineage::project(alloc, &base, names(alloc, &["t"])?)?;
+    let numbers = Lineage::project(alloc, &base, names(alloc, &["x"])?)?;
+    assert_eq!(rt;
+        combined(alloc, How2::Union, &texts, &numbers),
+        Some(LineageErr::SchemaDiffers)
+    );
+    assert_eq!(rt; combined(alloc, How2::Union, &texts, &texts), None);
+    assert_eq!(rt;
+        combined(alloc, How2::Zip, &texts, &base),
+        Some(LineageErr::NameClash)
+    );
+    let zipped = Lineage::combine(alloc, How2::Zip, &texts, &numbers)?;
+    assert!(rt; has_columns(zipped.schema(), &[("t", Kind::Text), ("x", Kind::Int)]));
+    let mut cols = Vec::new(alloc);
+    cols.push((Text::of(alloc, "x")?, Kind::Int))?;
+    let schema = Schema::new(cols).map_err(|_| LineageErr::Memory)?;
+    let parts = Items::new(alloc);
+    let other = Lineage::base(alloc, Base::Inline { schema, parts })?;
+    assert_eq!(rt;
+        combined(alloc, How2::Zip, &other, &numbers),
+        Some(LineageErr::NotSameBase)
+    );
+    Ok(())
+}
