@@ -1,3 +1,5 @@
 pub mod BaseSteps
 pub mod ColumnSteps
+pub mod CombineSteps
 pub mod RowSteps
+pub mod UnionSteps

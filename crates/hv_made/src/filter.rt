@@ -4,6 +4,7 @@ ghost use Rattle.std.specs.Prelude.{◌≡◌, IfOk};
 ghost use Rattle.hv_made.specs.Steps.{passing, with_rows};
 
 use crate::kept::KeptRows;
+use crate::rows::with_member;
 use hv_expr::{Pred, ReadyPred};
 use hv_member::Member;
 use hv_part::PartTable;
@@ -31,9 +32,6 @@ pub(crate) fn filtered(alloc: Global, table: PartTable, pred: &Pred) -> Mem<Part
     ensures { IfOk result (λ made. made ≡ with_rows table (passing pred.now table)) }
 {
     let rows = passing_rows(alloc, &table, pred)?;
-    let part = table.part();
-    let height = table.height();
-    let (schema, cols, _) = table.into_parts();
-    let member = Member::from_rows(height, rows)?;
-    Ok(PartTable::new(schema, part, cols, member))
+    let member = Member::from_rows(table.height(), rows)?;
+    Ok(with_member(table, member))
 }

@@ -2,11 +2,15 @@
 #![tactic(auto)]
 
 mod base;
+mod combine;
 mod derive;
 mod filter;
 mod kept;
 mod made;
 mod project;
+mod rows;
+mod sample;
+mod union;
 
 pub use base::{base_part, share_part};
 pub use made::{made_part, table_of};

@@ -1,20 +1,20 @@
 //! A lineage's term applied to a base's partition, node by node.
 
 ghost use Rattle.std.specs.Prelude.{◌≡◌, ◌<◌, ◌^◌, ◌∷◌, [], length, Some, IfOk};
-ghost use Rattle.std.specs.List.{filter_map};
 ghost use Rattle.hv_value.specs.Rows.{base_rows};
 ghost use Rattle.hv_part.specs.Part.{rows_of};
 ghost use Rattle.hv_lineage.specs.declared.term.Term.{every-Term};
 ghost use Rattle.hv_lineage.specs.Bases.{base_columns};
 ghost use Rattle.hv_lineage.specs.Flat.{Told, flat_rows, part_bytes, rows_under};
 ghost use Rattle.hv_lineage.specs.Lineages.{IsFitNode, lineage_columns};
-ghost use Rattle.hv_lineage.specs.Made.{columns_of, row_of};
-ghost use Rattle.hv_made.specs.Steps.{IsTableOf};
+ghost use Rattle.hv_made.specs.Steps.{IsMadeOf, IsTableOf};
 
-use crate::base::base_part;
+use crate::base::{base_part, share_part};
+use crate::combine::combined;
 use crate::derive::derived;
 use crate::filter::filtered;
 use crate::project::projected;
+use crate::sample::sampled;
 use hv_lineage::{Lineage, Term};
 use hv_part::PartTable;
 use hv_value::Mem;
@@ -23,7 +23,7 @@ use std::alloc::Global;
 /// What a term makes of a base's table.
 fn applied(alloc: Global, term: &Term, base: PartTable) -> Mem<PartTable>
     requires fits { every-Term (IsFitNode base.columns) term.now }
-    ensures { IfOk result (λ made. IsTableOf (columns_of base.columns term.now) base.part (filter_map (row_of base.columns term.now) (rows_of base)) made) }
+    ensures { IfOk result (IsMadeOf term.now base) }
 {
     match term {
         Term::Base => Ok(base),
@@ -43,6 +43,16 @@ fn applied(alloc: Global, term: &Term, base: PartTable) -> Mem<PartTable>
                 expr.get(),
             )
         }
+        Term::Sample {
+            of,
+            seed,
+            threshold,
+        } => sampled(alloc, applied(alloc, of.get(), base)?, *seed, *threshold),
+        Term::Combine { how, left, right } => {
+            let shared = share_part(alloc, &base)?;
+            let left = applied(alloc, left.get(), shared)?;
+            combined(alloc, *how, left, applied(alloc, right.get(), base)?)
+        }
     }
 }
 
@@ -53,7 +63,10 @@ pub fn made_part(alloc: Global, lineage: &Lineage, base: PartTable) -> Mem<PartT
     ensures { IfOk result (λ made. IsTableOf (lineage_columns lineage.now) base.part (rows_under lineage.now (rows_of base)) made) }
 {
     let _ = lineage.schema();
-    applied(alloc, lineage.term(), base)
+    let _ = base.height();
+    let made = applied(alloc, lineage.term(), base)?;
+    let _ = made.height();
+    Ok(made)
 }
 
 /// The table of a lineage's partition, from the bytes of its base's, fewer than 2^26 of them. Where these are what

@@ -3,7 +3,7 @@ ghost use Rattle.hv_expr.specs.Checks.{has_fit_factors};
 
 use super::*;
 use hv_expr::{Expr, Pred};
-use hv_lineage::{Base, Lineage, LineageErr};
+use hv_lineage::{Base, How2, Lineage, LineageErr};
 use hv_part::PartTable;
 use hv_value::{CellRef, Kind, Schema, Table, Text};
 use sqlite_items::Boxed;
@@ -196,5 +196,46 @@ fn a_filter_keeps_each_row_of_many(rt: HostRuntime) -> Result<(), LineageErr> {
             if n < 599 { Some(2 * n + 2) } else { None }
         );
     }
+    Ok(())
+}
+
+// A row that both sides have keeps the left's cells, and one that the right alone has gets the right's. Words of
+// partition 54 under seed 42 are those of the generator's reference code: row 3 has 2211639955, and is the third.
+#[test]
+fn sides_are_united_and_rows_picked_by_their_numbers(rt: HostRuntime) -> Result<(), LineageErr> {
+    let alloc = rt.alloc();
+    let base = named_base(alloc)?;
+    let left = Lineage::derive(
+        alloc,
+        &has(alloc, &base, "x")?,
+        Text::of(alloc, "n")?,
+        twice(alloc, "x")?,
+    )?;
+    let right = Lineage::derive(
+        alloc,
+        &has(alloc, &base, "t")?,
+        Text::of(alloc, "n")?,
+        length_of(alloc, "t")?,
+    )?;
+    let either = Lineage::combine(alloc, How2::Union, &left, &right)?;
+    assert!(rt;
+        has_rows(
+            &table_of(alloc, &either, 54, BYTES)?,
+            &[
+                (0, &[CellRef::Int(5), CellRef::Text("ab"), CellRef::Int(11)]),
+                (1, &[CellRef::Int(7), CellRef::Text(""), CellRef::Int(15)]),
+                (
+                    2,
+                    &[CellRef::Missing, CellRef::Text("abc"), CellRef::Int(3)]
+                ),
+                (3, &[CellRef::Int(9), CellRef::Missing, CellRef::Int(19)]),
+            ],
+        )
+    );
+    let picked = Lineage::sample(alloc, &left, 42, 2211639956)?;
+    let table = table_of(alloc, &picked, 54, BYTES)?;
+    assert_eq!(rt; table.member().count(), 2);
+    assert_eq!(rt; table.next_row(0), Some(1));
+    assert_eq!(rt; table.next_row(2), Some(3));
     Ok(())
 }

@@ -39,7 +39,7 @@ pub loop-row-smaller : goal.loop-row-smaller
 loop-row-smaller c =
     let table = c.args.table.now in
     let next = next-left table c.member.result.now c.loop-row.from c.in-Some.row c.member.ensures.whole c.member.ensures.value c.in-Some.ensures in
-    next-fewer table c.loop-row.from c.in-Some.row next
+    next-fewer table.member.rows c.loop-row.from c.in-Some.row next
 
 -- it is kept where the predicate holds of its row
 pub loop-row-preserved : goal.loop-row-preserved
