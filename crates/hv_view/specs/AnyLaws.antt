@@ -4,6 +4,7 @@ use Rattle.hv_value.specs.Rows.{Row}
 use Rattle.hv_find.specs.FindLaws.{IsFound-swap}
 use Rattle.hv_heavy.specs.HeavyLaws.{IsHeavy-swap}
 use Rattle.hv_next.specs.NextLaws.{IsNext-swap}
+use Rattle.hv_quant.specs.SampleLaws.{IsSample-swap}
 use Rattle.hv_range.specs.DistinctLaws.{distinct_of-swap}
 use Rattle.hv_range.specs.RangeLaws.{IsRange-swap}
 use Rattle.hv_bucket.specs.Places.{buckets_len}
@@ -39,4 +40,5 @@ StandsForAny-swap (view.NextRows next) a b c (summary.NextRows s) h = IsNext-swa
 StandsForAny-swap (view.Find find) a b c (summary.Find s) h = IsFound-swap find a b c s h
 StandsForAny-swap (view.Heavy heavy) a b c (summary.Heavy s) h = IsHeavy-swap heavy.col heavy.k a b c s h
 StandsForAny-swap (view.CountOf count) a b c (summary.CountOf s) h = IsTally-swap _ _ a b c s h
+StandsForAny-swap (view.Sample sample) a b c (summary.Sample s) h = IsSample-swap sample.seed sample.k sample.order a b c s h
 StandsForAny-swap _ a b c _ h = h

@@ -5,12 +5,13 @@ use Rattle.hv_bucket.specs.Hashes.{axis_writes}
 use Rattle.hv_find.specs.Hashes.{find_writes}
 use Rattle.hv_heavy.specs.Hashes.{count_writes}
 use Rattle.hv_next.specs.Hashes.{next_writes}
+use Rattle.hv_quant.specs.Hashes.{sample_writes}
 use Rattle.hv_view.specs.declared.any_view.AnyView.{AnyView}
 use Rattle.hv_view.specs.declared.any_view.AnyView.TheVariants as view
 use Rattle.hv_view.specs.declared.plan.Plan.{Plan}
 use Rattle.hv_view.specs.declared.plan.Plan.TheVariants as plan
 
--- the place of the view's variant, and then what it holds: columns, numbers of values, axes, orders, keys, tests
+-- the place of the view's variant, and then what it holds: columns, numbers of values, axes, orders, keys, tests, seeds
 abbrev pub view_writes : AnyView → List (List ℕ)
 view_writes (view.Range range) = fed.u8 0 ++ fed.u32 range.col
 view_writes (view.Distinct distinct) = fed.u8 1 ++ fed.u32 distinct.col ++ fed.u32 distinct.k
@@ -24,6 +25,7 @@ view_writes (view.NextRows next) = fed.u8 8 ++ next_writes next
 view_writes (view.Find find) = fed.u8 9 ++ find_writes find
 view_writes (view.Heavy heavy) = fed.u8 10 ++ fed.u32 heavy.col ++ fed.u32 heavy.k
 view_writes (view.CountOf count) = fed.u8 11 ++ count_writes count
+view_writes (view.Sample sample) = fed.u8 12 ++ sample_writes sample
 
 -- the place of the plan's variant, and then what its view writes, or its column and its number
 abbrev pub plan_writes : Plan → List (List ℕ)

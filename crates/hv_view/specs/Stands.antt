@@ -1,5 +1,6 @@
 -- What any view takes and what its summaries stand for: one case a view.
 use Rattle.std.specs.Prelude.{◌≡◌, ◌<◌, ⊤, true, ℕ, List, length}
+use Rattle.hv_value.specs.Orders.{AreInColumns}
 use Rattle.hv_value.specs.Rows.{Row}
 use Rattle.hv_value.specs.Schema.{Columns}
 use Rattle.hv_bucket.specs.Places.{buckets_len, fits_axis}
@@ -14,6 +15,7 @@ use Rattle.hv_heavy.specs.Heavy.{IsHeavy}
 use Rattle.hv_hist.specs.Slots.{IsCounted}
 use Rattle.hv_next.specs.Fits.{FitsNext}
 use Rattle.hv_next.specs.Next.{IsNext}
+use Rattle.hv_quant.specs.Sample.{IsSample}
 use Rattle.hv_sketch.specs.Columns.{IsColumnOf}
 use Rattle.hv_sketch.specs.Groups.{StandForGroups}
 use Rattle.hv_range.specs.Distinct.{distinct_of}
@@ -41,6 +43,7 @@ FitsAny (view.NextRows next) columns = FitsNext next.order next.after columns
 FitsAny (view.Find find) columns = FitsFind find columns
 FitsAny (view.Heavy heavy) columns = heavy.col < length columns
 FitsAny (view.CountOf count) columns = fits_count columns count.col count.values ≡ true
+FitsAny (view.Sample sample) columns = AreInColumns columns sample.order
 
 -- merging the view's summaries takes no memory
 abbrev pub MergesAlways : AnyView → Type 0
@@ -56,6 +59,7 @@ MergesAlways (view.NextRows next) = ⊥
 MergesAlways (view.Find find) = ⊥
 MergesAlways (view.Heavy heavy) = ⊥
 MergesAlways (view.CountOf count) = ⊤
+MergesAlways (view.Sample sample) = ⊥
 
 -- the summaries stand for the rows of the groups of an axis, and the rest is how many rows are in none
 abbrev pub ForEachGroup : {S : Type 0} → ByAxis → (List Row → S → Type 0) → List Row → List S × ℕ → Type 0
@@ -75,4 +79,5 @@ StandsForAny (view.NextRows next) rows (summary.NextRows s) = IsNext next.order 
 StandsForAny (view.Find find) rows (summary.Find s) = IsFound find rows s
 StandsForAny (view.Heavy heavy) rows (summary.Heavy s) = IsHeavy heavy.col heavy.k rows s
 StandsForAny (view.CountOf count) rows (summary.CountOf s) = IsCount count.col count.values rows s
+StandsForAny (view.Sample sample) rows (summary.Sample s) = IsSample sample.seed sample.k sample.order rows s
 StandsForAny _ rows _ = ⊥

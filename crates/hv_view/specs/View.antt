@@ -13,6 +13,7 @@ use Rattle.hv_heavy.specs.CountOf.{counts_of}
 use Rattle.hv_heavy.specs.Heavy.{IsHeavy}
 use Rattle.hv_hist.specs.Histogram.{cdf_of, histogram_of}
 use Rattle.hv_next.specs.Next.{next_of}
+use Rattle.hv_quant.specs.Quantiles.{value_over}
 use Rattle.hv_range.specs.Distinct.{distinct_of}
 use Rattle.hv_range.specs.Range.{range_of}
 use Rattle.hv_range.specs.declared.summary.RangeSummary.{RangeSummary}
@@ -67,3 +68,4 @@ IsView (view.NextRows next) rows value = value ≡ shown.NextRows (next_of next.
 IsView (view.Find find) rows value = value ≡ shown.Find (find_of find rows)
 IsView (view.Heavy heavy) rows value = AreHeavyHitters heavy.col heavy.k rows value
 IsView (view.CountOf count) rows value = value ≡ shown.CountOf (counts_of count.col count.values rows)
+IsView (view.Sample sample) rows value = value ≡ shown.Quantiles (value_over sample rows)

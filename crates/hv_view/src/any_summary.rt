@@ -3,6 +3,7 @@
 use hv_find::FindSummary;
 use hv_heavy::HeavySummary;
 use hv_next::NextSummary;
+use hv_quant::SampleSummary;
 use hv_range::{DistinctSummary, RangeSummary};
 use hv_sketch::{Counts, GroupedSummary};
 
@@ -26,4 +27,5 @@ pub enum AnySummary {
     Heavy(HeavySummary),
     /// The counts of the rows whose cell is each of some values, none of them, or missing.
     CountOf(Counts),
+    Sample(SampleSummary),
 }

@@ -13,6 +13,7 @@ use hv_grid::{HeatMap, Stacked, Trellis};
 use hv_heavy::{CountOf, MisraGries};
 use hv_hist::{Cdf, Histogram};
 use hv_next::NextRows;
+use hv_quant::Sample;
 use hv_range::{Distinct, Range};
 use hv_sketch::{Grouped, Vizketch};
 use hv_value::{Mem, Schema, Table};
@@ -34,6 +35,7 @@ pub enum AnyView {
     Find(Find),
     Heavy(MisraGries),
     CountOf(CountOf),
+    Sample(Sample),
 }
 
 impl AnyView {
@@ -60,6 +62,7 @@ impl AnyView {
             AnyView::Find(view) => AnyView::Find(view.copied(alloc)?),
             AnyView::Heavy(view) => AnyView::Heavy(*view),
             AnyView::CountOf(view) => AnyView::CountOf(view.copied(alloc)?),
+            AnyView::Sample(view) => AnyView::Sample(view.copied(alloc)?),
         })
     }
 
@@ -84,6 +87,7 @@ impl AnyView {
             (AnyView::Find(view), AnyView::Find(other)) => view.same(other),
             (AnyView::Heavy(view), AnyView::Heavy(other)) => view == other,
             (AnyView::CountOf(view), AnyView::CountOf(other)) => view.same(other),
+            (AnyView::Sample(view), AnyView::Sample(other)) => view.same(other),
             _ => false,
         }
     }
@@ -173,6 +177,10 @@ impl Hash for AnyView {
                 state.write_u8(11);
                 view.hash(state);
             }
+            AnyView::Sample(view) => {
+                state.write_u8(12);
+                view.hash(state);
+            }
         }
     }
 }
@@ -203,6 +211,7 @@ impl Vizketch for AnyView {
             AnyView::Find(view) => view.fits(schema),
             AnyView::Heavy(view) => view.fits(schema),
             AnyView::CountOf(view) => view.fits(schema),
+            AnyView::Sample(view) => view.fits(schema),
         }
     }
 
@@ -221,6 +230,7 @@ impl Vizketch for AnyView {
             AnyView::Find(view) => AnySummary::Find(view.zero(alloc)?),
             AnyView::Heavy(view) => AnySummary::Heavy(view.zero(alloc)?),
             AnyView::CountOf(view) => AnySummary::CountOf(view.zero(alloc)?),
+            AnyView::Sample(view) => AnySummary::Sample(view.zero(alloc)?),
         })
     }
 
@@ -243,6 +253,7 @@ impl Vizketch for AnyView {
             AnyView::Find(view) => AnySummary::Find(view.summarize(alloc, table)?),
             AnyView::Heavy(view) => AnySummary::Heavy(view.summarize(alloc, table)?),
             AnyView::CountOf(view) => AnySummary::CountOf(view.summarize(alloc, table)?),
+            AnyView::Sample(view) => AnySummary::Sample(view.summarize(alloc, table)?),
         })
     }
 
@@ -289,6 +300,9 @@ impl Vizketch for AnyView {
             (AnyView::CountOf(view), AnySummary::CountOf(acc), AnySummary::CountOf(d)) => {
                 view.merge_into(alloc, acc, d)
             }
+            (AnyView::Sample(view), AnySummary::Sample(acc), AnySummary::Sample(d)) => {
+                view.merge_into(alloc, acc, d)
+            }
             _ => unreachable!(),
         }
     }
@@ -322,6 +336,9 @@ impl Vizketch for AnyView {
             (AnyView::CountOf(view), AnySummary::CountOf(s)) => {
                 AnySummary::CountOf(view.copy(alloc, s)?)
             }
+            (AnyView::Sample(view), AnySummary::Sample(s)) => AnySummary::Sample(view.copy(
+                alloc, s,
+            )?),
             // a summary of another view stands for nothing, so any summary will do
             _ => return self.zero(alloc),
         })

@@ -12,6 +12,7 @@ use hv_grid::{HeatMapShown, StackedShown};
 use hv_heavy::{CountShown, HeavySummary};
 use hv_hist::{CdfShown, HistogramShown};
 use hv_next::NextSummary;
+use hv_quant::SampleValue;
 use hv_sketch::copied_cells;
 use hv_value::{Cell, Kind, Listed, Mem};
 use std::alloc::Global;
@@ -59,6 +60,8 @@ pub enum Shown {
     Heavy(HeavySummary),
     /// Of a count: how many cells are each of the given values, in their order.
     CountOf(CountShown),
+    /// Of a sample: quantiles of its keys, how many rows it has, and the seed by which they were sampled.
+    Quantiles(SampleValue),
     /// Of a histogram between a column's own ends: the counts, and the ends.
     Auto(AutoShown),
     /// Of frequent values: all of them, each with its count.
@@ -104,6 +107,7 @@ impl Shown {
             Shown::Find(value) => Shown::Find(value.copy(alloc)?),
             Shown::Heavy(value) => Shown::Heavy(value.copy(alloc)?),
             Shown::CountOf(value) => Shown::CountOf(value.copied(alloc)?),
+            Shown::Quantiles(value) => Shown::Quantiles(value.copied(alloc)?),
             Shown::Auto(value) => Shown::Auto(value.copied(alloc)?),
             Shown::Frequent(value) => Shown::Frequent(value.copied(alloc)?),
         })
@@ -149,6 +153,7 @@ pub fn finish(alloc: Global, view: &AnyView, s: &AnySummary) -> Mem<Shown>
         (AnyView::Find(_), AnySummary::Find(s)) => Shown::Find(s.copy(alloc)?),
         (AnyView::Heavy(_), AnySummary::Heavy(s)) => Shown::Heavy(s.copy(alloc)?),
         (AnyView::CountOf(view), AnySummary::CountOf(s)) => Shown::CountOf(view.value(alloc, s)?),
+        (AnyView::Sample(view), AnySummary::Sample(s)) => Shown::Quantiles(view.value(alloc, s)?),
         _ => Shown::Distinct {
             more: false,
             values: Listed::new(alloc),

@@ -7,10 +7,11 @@ use Rattle.hv_grid.specs.Slots.{IsHeatMapCounted}
 use Rattle.hv_find.specs.Find.{IsFound}
 use Rattle.hv_heavy.specs.Heavy.{IsHeavy}
 use Rattle.hv_next.specs.Next.{IsNext}
+use Rattle.hv_quant.specs.Sample.{IsSample}
 use Rattle.hv_view.specs.declared.shown.Shown.TheVariants as shown
 use Rattle.hv_view.specs.Stands.{ForEachGroup, StandsForAny}
 use Rattle.hv_view.specs.View.{of_each_bucket}
-use Rattle.hv_view.proofs.shown.finish.Goals.{in-Range-Range+in_ok-of-in-Range-Range+in_ok-of-in-Range-Range-2, in-Distinct-Distinct+in_ok-copied_cells-in-Distinct-Distinct, in-Histogram-Histogram+in_ok-value-in-Histogram-Histogram, in-Cdf-Cdf+in_ok-value-in-Cdf-Cdf, in-Stacked-Stacked+in_ok-value-in-Stacked-Stacked, in-HeatMap-HeatMap+in_ok-value-in-HeatMap-HeatMap, in-TrellisHistogram-TrellisHistogram+in_ok-values_of_groups-in-TrellisHistogram-TrellisHistogram, in-TrellisHeatMap-TrellisHeatMap+in_ok-values_of_groups-in-TrellisHeatMap-TrellisHeatMap, in-NextRows-NextRows+in_ok-copy-in-NextRows-NextRows, in-Find-Find+in_ok-copy-in-Find-Find, in-Heavy-Heavy+in_ok-copy-in-Heavy-Heavy, in-CountOf-CountOf+in_ok-value-in-CountOf-CountOf, in_default, in_default-via-in-Range+in_default, in_default-via-in-Distinct+in_default, in_default-via-in-Histogram+in_default, in_default-via-in-Cdf+in_default, in_default-via-in-Stacked+in_default, in_default-via-in-HeatMap+in_default, in_default-via-in-TrellisHistogram+in_default, in_default-via-in-TrellisHeatMap+in_default, in_default-via-in-NextRows+in_default, in_default-via-in-Find+in_default, in_default-via-in-Heavy+in_default, in_default-via-in-CountOf+in_default}
+use Rattle.hv_view.proofs.shown.finish.Goals.{in-Range-Range+in_ok-of-in-Range-Range+in_ok-of-in-Range-Range-2, in-Distinct-Distinct+in_ok-copied_cells-in-Distinct-Distinct, in-Histogram-Histogram+in_ok-value-in-Histogram-Histogram, in-Cdf-Cdf+in_ok-value-in-Cdf-Cdf, in-Stacked-Stacked+in_ok-value-in-Stacked-Stacked, in-HeatMap-HeatMap+in_ok-value-in-HeatMap-HeatMap, in-TrellisHistogram-TrellisHistogram+in_ok-values_of_groups-in-TrellisHistogram-TrellisHistogram, in-TrellisHeatMap-TrellisHeatMap+in_ok-values_of_groups-in-TrellisHeatMap-TrellisHeatMap, in-NextRows-NextRows+in_ok-copy-in-NextRows-NextRows, in-Find-Find+in_ok-copy-in-Find-Find, in-Heavy-Heavy+in_ok-copy-in-Heavy-Heavy, in-CountOf-CountOf+in_ok-value-in-CountOf-CountOf, in-Sample-Sample+in_ok-value-in-Sample-Sample, in_default, in_default-via-in-Range+in_default, in_default-via-in-Distinct+in_default, in_default-via-in-Histogram+in_default, in_default-via-in-Cdf+in_default, in_default-via-in-Stacked+in_default, in_default-via-in-HeatMap+in_default, in_default-via-in-TrellisHistogram+in_default, in_default-via-in-TrellisHeatMap+in_default, in_default-via-in-NextRows+in_default, in_default-via-in-Find+in_default, in_default-via-in-Heavy+in_default, in_default-via-in-CountOf+in_default, in_default-via-in-Sample+in_default}
 use Rattle.hv_view.proofs.shown.finish.Goals as goal
 
 -- src/shown.rt
@@ -45,6 +46,9 @@ returns c rows stands = elim c.match-view.branch [
       let there : IsHeavy w.in-Heavy-Heavy.field-0-0.col w.in-Heavy-Heavy.field-0-0.k rows w.in-Heavy-Heavy.s = rw (w.in-Heavy-Heavy.is-0, w.in-Heavy-Heavy.is-1) at stands in
       rw (w.in-Heavy-Heavy.is-0, w.result-is, w.in_ok-copy-in-Heavy-Heavy.ensures) there
   | in-CountOf-CountOf+in_ok-value-in-CountOf-CountOf w ↦ search rules
+  | in-Sample-Sample+in_ok-value-in-Sample-Sample w ↦
+      let there : IsSample w.in-Sample-Sample.view.seed w.in-Sample-Sample.view.k w.in-Sample-Sample.view.order rows w.in-Sample-Sample.s = rw (w.in-Sample-Sample.is-0, w.in-Sample-Sample.is-1) at stands in
+      rw (w.in-Sample-Sample.is-0, w.result-is) (ap shown.Quantiles (w.in_ok-value-in-Sample-Sample.ensures rows there))
   | in_default w ↦ elim w.in_default.branch [
     | in_default-via-in-Range+in_default w' ↦ search rules
     | in_default-via-in-Distinct+in_default w' ↦ search rules
@@ -58,5 +62,6 @@ returns c rows stands = elim c.match-view.branch [
     | in_default-via-in-Find+in_default w' ↦ search rules
     | in_default-via-in-Heavy+in_default w' ↦ search rules
     | in_default-via-in-CountOf+in_default w' ↦ search rules
+    | in_default-via-in-Sample+in_default w' ↦ search rules
   ]
 ]

@@ -1,6 +1,6 @@
 use Rattle.std.proofs.Common.{rules}
 use Rattle.hv_view.specs.Stands.{StandsForAny}
-use Rattle.hv_view.proofs.any_view.AnyViewVizketch.copy.Goals.{in-Range-Range+in_ok-copy-in-Range-Range, in-Distinct-Distinct+in_ok-copy-in-Distinct-Distinct, in-Histogram-Histogram+in_ok-copy-in-Histogram-Histogram, in-Cdf-Cdf+in_ok-copy-in-Cdf-Cdf, in-Stacked-Stacked+in_ok-copy-in-Stacked-Stacked, in-HeatMap-HeatMap+in_ok-copy-in-HeatMap-HeatMap, in-TrellisHistogram-TrellisHistogram+in_ok-copy-in-TrellisHistogram-TrellisHistogram, in-TrellisHeatMap-TrellisHeatMap+in_ok-copy-in-TrellisHeatMap-TrellisHeatMap, in-NextRows-NextRows+in_ok-copy-in-NextRows-NextRows, in-Find-Find+in_ok-copy-in-Find-Find, in-Heavy-Heavy+in_ok-copy-in-Heavy-Heavy, in-CountOf-CountOf+in_ok-copy-in-CountOf-CountOf}
+use Rattle.hv_view.proofs.any_view.AnyViewVizketch.copy.Goals.{in-Range-Range+in_ok-copy-in-Range-Range, in-Distinct-Distinct+in_ok-copy-in-Distinct-Distinct, in-Histogram-Histogram+in_ok-copy-in-Histogram-Histogram, in-Cdf-Cdf+in_ok-copy-in-Cdf-Cdf, in-Stacked-Stacked+in_ok-copy-in-Stacked-Stacked, in-HeatMap-HeatMap+in_ok-copy-in-HeatMap-HeatMap, in-TrellisHistogram-TrellisHistogram+in_ok-copy-in-TrellisHistogram-TrellisHistogram, in-TrellisHeatMap-TrellisHeatMap+in_ok-copy-in-TrellisHeatMap-TrellisHeatMap, in-NextRows-NextRows+in_ok-copy-in-NextRows-NextRows, in-Find-Find+in_ok-copy-in-Find-Find, in-Heavy-Heavy+in_ok-copy-in-Heavy-Heavy, in-CountOf-CountOf+in_ok-copy-in-CountOf-CountOf, in-Sample-Sample+in_ok-copy-in-Sample-Sample}
 use Rattle.hv_view.proofs.any_view.AnyViewVizketch.copy.Goals as goal
 
 -- src/any_view.rt
@@ -19,4 +19,5 @@ returns c rows stands = elim c.match-self.branch [
   | in-Find-Find+in_ok-copy-in-Find-Find w ↦ rw (w.in-Find-Find.is-0, w.result-is) (w.in_ok-copy-in-Find-Find.ensures rows (rw (w.in-Find-Find.is-0, w.in-Find-Find.is-1) at stands))
   | in-Heavy-Heavy+in_ok-copy-in-Heavy-Heavy w ↦ rw (w.in-Heavy-Heavy.is-0, w.result-is) (w.in_ok-copy-in-Heavy-Heavy.ensures rows (rw (w.in-Heavy-Heavy.is-0, w.in-Heavy-Heavy.is-1) at stands))
   | in-CountOf-CountOf+in_ok-copy-in-CountOf-CountOf w ↦ rw (w.in-CountOf-CountOf.is-0, w.result-is) (w.in_ok-copy-in-CountOf-CountOf.ensures rows (rw (w.in-CountOf-CountOf.is-0, w.in-CountOf-CountOf.is-1) at stands))
+  | in-Sample-Sample+in_ok-copy-in-Sample-Sample w ↦ rw (w.in-Sample-Sample.is-0, w.result-is) (w.in_ok-copy-in-Sample-Sample.ensures rows (rw (w.in-Sample-Sample.is-0, w.in-Sample-Sample.is-1) at stands))
 ]
