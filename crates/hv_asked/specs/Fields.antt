@@ -7,6 +7,19 @@ use Rattle.serde_json.specs.Find.{get, as_number, as_integer, as_bool, as_str, a
 abbrev pub integer_at : List ℕ → Data → Option ℤ
 integer_at key value = option_and_then as_integer (option_and_then as_number (get key value))
 
+-- the whole number of at most 64 bits that a value is
+abbrev pub integer_in : Data → Option ℤ
+integer_in value = option_and_then as_integer (as_number value)
+
+-- a field that may be absent: none where it is
+abbrev pub if_there : {A : Type 0} → (Data → Option A) → Option Data → Option (Option A)
+if_there read None = Some None
+if_there read (Some value) = option_map Some (read value)
+
+-- the whole number under a key that may be absent
+abbrev pub integer_if_there : List ℕ → Data → Option (Option ℤ)
+integer_if_there key value = if_there integer_in (get key value)
+
 abbrev pub text_at : List ℕ → Data → Option (List ℕ)
 text_at key value = option_and_then as_str (get key value)
 

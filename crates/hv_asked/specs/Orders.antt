@@ -56,6 +56,10 @@ order_with value keys = option_map (λ after. record { keys = keys; after = afte
 abbrev pub order_in : Data → Option OrderAsked
 order_in value = option_and_then (order_with value) (keys_in value)
 
+-- the order under `order` alone: a key beside it isn't read
+abbrev pub order_alone_in : Data → Option OrderAsked
+order_alone_in value = option_map (λ keys. record { keys = keys; after = None }) (keys_in value)
+
 -- ---- its limits: 1 to 8 keys, and those of its constants
 
 -- whether the cells of a key, where there is one, are within their limits

@@ -82,6 +82,25 @@ pub fn number(value: &Value, key: &str) -> Result<i128, Refused>
     needed(integer_at(value, key))
 }
 
+/// The whole number of at most 64 bits that a value is.
+fn integer_in(value: &Value) -> Option<i128>
+    ensures value { result ≡ field.integer_in (view value.now) }
+    ensures fit { IfSome result (λ n. is_fit_factor n ≡ true) }
+{
+    integer_of(value.as_number()?)
+}
+
+/// The whole number of at most 64 bits of a field that may be absent, none where it is. `Why::Field` where there is
+/// another value, null too.
+pub fn number_if_there(value: &Value, key: &str) -> Result<Option<i128>, Refused>
+    ensures { IsField result (field.integer_if_there key.now (view value.now)) }
+{
+    match value.get(key) {
+        Some(found) => Ok(Some(needed(integer_in(found))?)),
+        None => Ok(None),
+    }
+}
+
 /// The word of a field. `Why::Field` where it is absent or no text.
 pub fn word<'a>(value: &'a Value, key: &str) -> Result<&'a str, Refused>
     ensures { IsField (map_ok (λ text. text.now) result) (field.text_at key.now (view value.now)) }

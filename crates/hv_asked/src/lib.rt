@@ -22,6 +22,7 @@ pub use constants::is_short;
 pub use limits::{
     LEVELS, MAX_CONSTANT_BYTES, MAX_COUNTED, MAX_COUNTS, MAX_DISTINCT, MAX_FIND_COLUMNS,
     MAX_GROUPS, MAX_HEAVY, MAX_ID, MAX_MESSAGE_BYTES, MAX_NEXT, MAX_NODES, MAX_OBJECTS, MAX_OPEN,
+    MAX_QUANTILES, MAX_SAMPLE, MAX_SEED, MAX_THRESHOLD,
 };
 pub use orders::{KeyAsked, OrderAsked};
 pub use pred_asked::PredAsked;

@@ -24,6 +24,18 @@ pub const MAX_COUNTED: usize = 1_000;
 /// The most keys of a view of next rows.
 pub const MAX_NEXT: u32 = 500;
 
+/// The most rows of a sample for quantiles.
+pub const MAX_SAMPLE: u32 = 10_000;
+
+/// The most quantiles of a sample.
+pub const MAX_QUANTILES: u32 = 100;
+
+/// The greatest seed of a sample.
+pub const MAX_SEED: u64 = 18_446_744_073_709_551_615;
+
+/// The greatest threshold at which rows are picked, of 2^32nds.
+pub const MAX_THRESHOLD: u64 = 4_294_967_296;
+
 /// The most columns in which a text is searched for.
 pub const MAX_FIND_COLUMNS: usize = 64;
 

@@ -96,6 +96,15 @@ pub fn order_in(alloc: Global, value: &Value) -> Result<OrderAsked, Refused>
     Ok(OrderAsked { keys, after })
 }
 
+/// The order under `order` alone: a key beside it isn't read. `Why::Field` where it is absent or has another shape, or
+/// memory is refused.
+pub fn order_alone_in(alloc: Global, value: &Value) -> Result<OrderAsked, Refused>
+    ensures { IsField result (order.order_alone_in (view value.now)) }
+{
+    let keys = all_items(alloc, list(value, "order")?)?;
+    Ok(OrderAsked { keys, after: None })
+}
+
 impl OrderAsked {
     /// Whether it has 1 to 8 keys and its constants are within their limits.
     pub fn fits(&self) -> bool

@@ -107,7 +107,8 @@ expr_with-same f g value word agree =
 
 term_with-same : (f g : Data → Result TermOver Why) (base : TermOver) (value : Data) (word : List ℕ) → Agree f g (depth value)
     → term_with f base value word ≡ term_with g base value word
-term_with-same f g base value word agree = cc (inner-same f g (codes "of") value agree)
+term_with-same f g base value word agree =
+    cc (inner-same f g (codes "of") value agree, inner-same f g (codes "left") value agree, inner-same f g (codes "right") value agree)
 
 -- ---- levels
 

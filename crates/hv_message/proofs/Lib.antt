@@ -1,5 +1,7 @@
 mod CountFacts
+mod TermLemmas
 pub mod TreeLemmas
+pub mod WordLemmas
 pub mod TableLemmas
 pub mod LevelLemmas
 pub mod RefusalLemmas

@@ -1,4 +1,6 @@
 pub mod Tables
+pub mod Samples
+pub mod Words
 pub mod Terms
 pub mod Views
 pub mod Messages

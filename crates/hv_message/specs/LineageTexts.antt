@@ -12,7 +12,8 @@ use Rattle.hv_asked.specs.Flaws.{and_then, of_field, within}
 use Rattle.hv_message.specs.Messages.{object_of}
 use Rattle.hv_asked.specs.Tables.{fits_table, table_in}
 use Rattle.hv_message.specs.Tables.{loaded}
-use Rattle.hv_message.specs.Terms.{derive_of, filter_of, over, project_of}
+use Rattle.hv_message.specs.Terms.{both_combined, derive_of, filter_of, over, project_of, sample_of}
+use Rattle.hv_message.specs.Words.{how2_in}
 use Rattle.hv_asked.specs.Trees.{levels}
 
 -- the lineage of the base, in the form in which a load gives a table
@@ -25,6 +26,17 @@ base_in tables value = and_then (loaded tables) (and_then (within fits_table) (t
 abbrev pub over_inner : (Data → Result TermOver Why) → Data → (TermOver → Result TermOver Why) → Result TermOver Why
 over_inner inner value make = and_then make (of_field (get (codes "of") value) inner)
 
+-- what is made of two terms: what is wrong with the left one is told first
+abbrev pub of_both : Result TermOver Why → Result TermOver Why → (TermOver → TermOver → Result TermOver Why) → Result TermOver Why
+of_both (Ok left) (Ok right) make = make left right
+of_both (Ok left) (Err word) make = Err word
+of_both (Err word) right make = Err word
+
+-- the left and the right term, which are read so, combined
+abbrev pub combine_in : (Data → Result TermOver Why) → Data → Result TermOver Why
+combine_in inner value = of_both (of_field (get (codes "left") value) inner) (of_field (get (codes "right") value) inner) (λ left right.
+    of_field (how2_in value) (λ how. both_combined how left right))
+
 -- a term over a base by its word, its inner terms read so
 abbrev pub term_with : (Data → Result TermOver Why) → TermOver → Data → List ℕ → Result TermOver Why
 term_with inner base value word =
@@ -32,6 +44,8 @@ term_with inner base value word =
     else if bytes_eq word (codes "filter") then over_inner inner value (over filter_of value)
     else if bytes_eq word (codes "project") then over_inner inner value (over project_of value)
     else if bytes_eq word (codes "derive") then over_inner inner value (over derive_of value)
+    else if bytes_eq word (codes "sample") then over_inner inner value (over sample_of value)
+    else if bytes_eq word (codes "combine") then combine_in inner value
     else Err why.Field
 
 -- a term over a base, of at most so many levels

@@ -1,14 +1,14 @@
 -- What the values that the code reads mean.
-use Rattle.std.specs.Prelude.{◌≡◌, ◌⊎◌, ◌<◌, ℕ, length, true, false, Option, Some, None, Result, Ok, Err}
+use Rattle.std.specs.Prelude.{◌≡◌, ◌⊎◌, ◌<◌, ◌≤◌, ◌^◌, ℕ, length, true, false, Option, Some, None, Result, Ok, Err}
 use Rattle.std.specs.Arc.{arc_value}
 use Rattle.std.specs.declared.alloc.Global.{Global}
 use Rattle.std.specs.declared.sync.Arc.{Arc}
 use Rattle.hv_expr.specs.Checks.{has_fit_factors, is_fit_factor}
-use Rattle.hv_lineage.specs.Lineages.{TermOver, lineage_columns}
+use Rattle.hv_lineage.specs.Lineages.{TermOver, lineage_columns, room_refusal}
 use Rattle.hv_lineage.specs.declared.error.LineageErr.{LineageErr}
 use Rattle.hv_lineage.specs.declared.lineage.Lineage.{Lineage}
 use Rattle.hv_message.specs.declared.message.Message.{Message}
-use Rattle.hv_message.specs.declared.message.Message.TheVariants.{Make, Info, View, Cancel, End}
+use Rattle.hv_message.specs.declared.message.Message.TheVariants.{Make, Sample, Info, View, Cancel, End}
 use Rattle.hv_message.specs.declared.message.Refusal.{Refusal}
 use Rattle.hv_message.specs.declared.message.Refusal.TheVariants as refusal
 use Rattle.hv_message.specs.declared.message.Refusal.TheVariants.{Malformed}
@@ -17,25 +17,28 @@ use Rattle.hv_asked.specs.declared.refused.Refused.TheVariants.{Word, Memory}
 use Rattle.hv_asked.specs.declared.why.Why.{Why}
 use Rattle.hv_asked.specs.declared.why.Why.TheVariants as why
 use Rattle.hv_value.specs.Schema.{Columns, is_schema}
-use Rattle.hv_message.specs.Messages.{Meaning, makes, tells, views, cancels, ends, Reading, means, malformed, Known, is_open}
+use Rattle.hv_message.specs.Messages.{Meaning, makes, samples, tells, views, cancels, ends, Reading, means, malformed, Known, is_open}
 use Rattle.hv_view.specs.Plans.{FitsPlan}
 use Rattle.hv_view.specs.declared.plan.Plan.{Plan}
 use Rattle.hv_asked.specs.declared.limits.TheConstants.{MAX_OBJECTS, MAX_OPEN}
 use Rattle.hv_message.specs.declared.asked.Asked.{Asked}
 use Rattle.hv_message.specs.declared.asked.Asked.TheVariants as asked
 use Rattle.hv_message.specs.declared.asked.TermAsked.{TermAsked}
-use Rattle.hv_message.specs.declared.asked.TermAsked.TheVariants.{Filter, Project, Derive}
+use Rattle.hv_message.specs.declared.asked.TermAsked.TheVariants as over
 use Rattle.hv_message.specs.Terms.{refusal_word}
 
 -- an expression's factors and summands, and the number of a request that is to end, have at most 64 bits
 abbrev pub HasFitFactors : TermAsked → Type 0
-HasFitFactors (Filter p) = Unit {0}
-HasFitFactors (Project cols) = Unit {0}
-HasFitFactors (Derive name e) = has_fit_factors e ≡ true
+HasFitFactors (over.Filter p) = Unit {0}
+HasFitFactors (over.Project cols) = Unit {0}
+HasFitFactors (over.Derive name e) = has_fit_factors e ≡ true
+HasFitFactors (over.Sample threshold seed) = Unit {0}
 
 abbrev pub HasFitNumbers : Asked → Type 0
 HasFitNumbers (asked.Load table) = Unit {0}
 HasFitNumbers (asked.Over of term) = HasFitFactors term
+HasFitNumbers (asked.Combine how left right) = Unit {0}
+HasFitNumbers (asked.Sample of threshold seed) = Unit {0}
 HasFitNumbers (asked.Info of) = Unit {0}
 HasFitNumbers (asked.View of v) = Unit {0}
 HasFitNumbers (asked.Cancel request) = is_fit_factor request ≡ true
@@ -43,10 +46,17 @@ HasFitNumbers asked.End = Unit {0}
 
 abbrev pub message_meant : Message → Meaning
 message_meant (Make id made) = makes id (arc_value made)
+message_meant (Sample id of threshold seed) = samples id (arc_value of) threshold seed
 message_meant (Info id of) = tells id (arc_value of)
 message_meant (View id of plan) = views id (arc_value of) plan
 message_meant (Cancel id request) = cancels id request
 message_meant (End id) = ends id
+
+-- what a sample that is taken keeps to: there is room for its object and for one node more, and its threshold is within its limit
+pub record CanSample (known : Known) (of : TermOver) (threshold : ℕ) : Type 0 where
+  pub room : length known.objects < MAX_OBJECTS
+  pub deep : room_refusal of ≡ None
+  pub fit : threshold ≤ 2 ^ 32
 
 -- what a view that is opened keeps to: there is room for it, its id is free, and its columns are there
 pub record CanOpen (known : Known) (id : ℕ) (of : TermOver) (plan : Plan) : Type 0 where
@@ -57,6 +67,7 @@ pub record CanOpen (known : Known) (id : ℕ) (of : TermOver) (plan : Plan) : Ty
 -- a message that a session can serve
 abbrev pub CanServe : Known → Message → Type 0
 CanServe known (Make id made) = length known.objects < MAX_OBJECTS
+CanServe known (Sample id of threshold seed) = CanSample known (arc_value of) threshold
 CanServe known (Info id of) = Unit {0}
 CanServe known (View id of plan) = CanOpen known id (arc_value of) plan
 CanServe known (Cancel id request) = is_open request known.requests ≡ true
@@ -65,6 +76,7 @@ CanServe known (End id) = Unit {0}
 -- the id of a message
 abbrev pub id_of : Message → ℕ
 id_of (Make id made) = id
+id_of (Sample id of threshold seed) = id
 id_of (Info id of) = id
 id_of (View id of plan) = id
 id_of (Cancel id request) = id

@@ -1,25 +1,28 @@
 -- What a text means as a message in a session, or the word that says why it is malformed. The checks come in a fixed order, and
 -- the first that fails decides: this project's own rule.
-use Rattle.std.specs.Prelude.{ℕ, ℤ, pos, negsuc, List, length, position, remove, Bool, true, ◌==◌, nat_lt, nat_le, if◌then◌else◌, Option, Some, None, option_and_then, is_some, slice_get, Result, Ok, Err, bytes_eq, codes}
+use Rattle.std.specs.Prelude.{ℕ, ℤ, pos, negsuc, unsigned_abs, List, length, position, remove, Bool, true, ◌&&◌, ◌==◌, nat_lt, nat_le, if◌then◌else◌, Option, Some, None, option_and_then, option_map, is_some, slice_get, Result, Ok, Err, bytes_eq, codes}
 use Rattle.std.specs.List.{list_any}
 use Rattle.serde_json.specs.Data.{Data}
 use Rattle.serde_json.specs.Find.{get, as_number, as_u64, as_object}
 use Rattle.serde_json.specs.Read.{read}
 use Rattle.hv_value.specs.Catalog.{Tables}
-use Rattle.hv_lineage.specs.Lineages.{TermOver, lineage_columns}
+use Rattle.hv_lineage.specs.Lineages.{TermOver, lineage_columns, room_refusal}
+use Rattle.hv_lineage.specs.declared.how.How2.{How2}
 use Rattle.hv_view.specs.declared.plan.Plan.{Plan}
 use Rattle.hv_message.specs.declared.asked.Asked.{Asked}
-use Rattle.hv_message.specs.declared.asked.Asked.TheVariants.{Load, Over, Info, View, Cancel, End}
+use Rattle.hv_message.specs.declared.asked.Asked.TheVariants.{Load, Over, Combine, Sample, Info, View, Cancel, End}
 use Rattle.hv_message.specs.declared.asked.TermAsked.{TermAsked}
 use Rattle.hv_asked.specs.declared.limits.TheConstants.{MAX_ID, MAX_MESSAGE_BYTES, MAX_OBJECTS, MAX_OPEN}
 use Rattle.hv_asked.specs.declared.why.Why.{Why}
 use Rattle.hv_asked.specs.declared.why.Why.TheVariants as why
-use Rattle.hv_asked.specs.Fields.{integer_at, text_at}
+use Rattle.hv_asked.specs.Fields.{integer_at, integer_if_there, text_at}
 use Rattle.hv_asked.specs.Flaws.{map_ok, and_then, of_field, within}
 use Rattle.hv_asked.specs.Tables.{fits_table, table_in}
 use Rattle.hv_message.specs.Tables.{loaded}
-use Rattle.hv_message.specs.Terms.{applied, derive_of, filter_of, fits_term, project_of}
+use Rattle.hv_message.specs.Samples.{is_seed_if_given, is_threshold}
+use Rattle.hv_message.specs.Terms.{applied, both_combined, derive_of, filter_of, fits_term, project_of, unless_refused}
 use Rattle.hv_message.specs.Views.{fits_view, planned, view_in}
+use Rattle.hv_message.specs.Words.{how2_in}
 
 -- what a session knows: the catalog, its objects by number, the ids of its open requests, whether it heard `end`
 pub record Known : Type 0 where
@@ -28,9 +31,11 @@ pub record Known : Type 0 where
   pub requests : List ℕ
   pub ended : Bool
 
--- what a message means: an object to be made, a question about an object, a view of an object, the end of a request, the end
+-- what a message means: an object to be made, the rows of an object to be picked at a threshold, by a seed that is given or drawn, a
+-- question about an object, a view of an object, the end of a request, the end
 pub data Meaning : Type 0 where
   makes : ℕ → TermOver → Meaning
+  samples : ℕ → TermOver → ℕ → Option ℕ → Meaning
   tells : ℕ → TermOver → Meaning
   views : ℕ → TermOver → Plan → Meaning
   cancels : ℕ → ℕ → Meaning
@@ -51,6 +56,16 @@ of_object value = of_field (integer_at (codes "of") value)
 abbrev pub over_asked : (Data → Result TermAsked Why) → Data → Result Asked Why
 over_asked read value = of_object value (λ of. map_ok (Over of) (read value))
 
+-- two objects, the left one and the right one, combined
+abbrev pub combine_asked : Data → Result Asked Why
+combine_asked value = of_field (how2_in value) (λ how. of_field (integer_at (codes "left") value) (λ left.
+    of_field (integer_at (codes "right") value) (λ right. Ok (Combine how left right))))
+
+-- a sample of an object: a threshold, and a seed, which may be absent
+abbrev pub sample_asked : Data → Result Asked Why
+sample_asked value = of_object value (λ of. of_field (integer_at (codes "threshold") value) (λ threshold.
+    of_field (integer_if_there (codes "seed") value) (λ seed. Ok (Sample of threshold seed))))
+
 -- what an operation asks for, by its word
 abbrev pub shape : Data → List ℕ → Result Asked Why
 shape value op =
@@ -58,6 +73,8 @@ shape value op =
     else if bytes_eq op (codes "filter") then over_asked filter_of value
     else if bytes_eq op (codes "project") then over_asked project_of value
     else if bytes_eq op (codes "derive") then over_asked derive_of value
+    else if bytes_eq op (codes "combine") then combine_asked value
+    else if bytes_eq op (codes "sample") then sample_asked value
     else if bytes_eq op (codes "info") then of_object value (λ of. Ok (Info of))
     else if bytes_eq op (codes "view") then of_object value (λ of. of_field (view_in value) (λ v. Ok (View of v)))
     else if bytes_eq op (codes "cancel") then of_field (integer_at (codes "request") value) (λ request. Ok (Cancel request))
@@ -68,6 +85,8 @@ shape value op =
 abbrev pub fits : Asked → Bool
 fits (Load table) = fits_table table
 fits (Over of term) = fits_term term
+fits (Combine how left right) = true
+fits (Sample of threshold seed) = is_threshold threshold && is_seed_if_given seed
 fits (Info of) = true
 fits (View of view) = fits_view view
 fits (Cancel request) = true
@@ -113,10 +132,21 @@ abbrev pub cancelled : Known → ℕ → ℤ → Result Meaning Why
 cancelled known id (pos request) = if is_open request known.requests then Ok (cancels id request) else Err why.Request
 cancelled known id (negsuc request) = Err why.Request
 
+-- two objects are combined, the left one looked up first
+abbrev pub combined_in : Known → ℕ → How2 → Option TermOver → Option TermOver → Result Meaning Why
+combined_in known id how left right = of_known left (λ l. of_known right (λ r. and_then (made_in known id) (both_combined how l r)))
+
+-- a sample is taken while there is room for one object more
+abbrev pub sampled_in : Known → ℕ → ℕ → Option ℕ → TermOver → Result Meaning Why
+sampled_in known id threshold seed lineage = if nat_lt (length known.objects) MAX_OBJECTS then Ok (samples id lineage threshold seed) else Err why.Full
+
 -- what is asked for means in a session
 abbrev pub meaning : Known → ℕ → Asked → Result Meaning Why
 meaning known id (Load table) = and_then (made_in known id) (loaded known.tables table)
 meaning known id (Over of term) = of_known (object_at known.objects of) (λ lineage. and_then (made_in known id) (applied term lineage))
+meaning known id (Combine how left right) = combined_in known id how (object_at known.objects left) (object_at known.objects right)
+meaning known id (Sample of threshold seed) = of_known (object_at known.objects of) (λ lineage.
+    and_then (sampled_in known id (unsigned_abs threshold) (option_map unsigned_abs seed)) (unless_refused (room_refusal lineage) lineage))
 meaning known id (Info of) = of_known (object_at known.objects of) (λ lineage. Ok (tells id lineage))
 meaning known id (View of v) = of_known (object_at known.objects of) (λ lineage.
     and_then (opened_in known id lineage) (planned (lineage_columns lineage) v))

@@ -1,16 +1,19 @@
 -- What a message or a term of a lineage's text puts over a lineage: what it asks for, and what it means.
-use Rattle.std.specs.Prelude.{Bool, true, Option, Some, None, option_and_then, Result, Ok, Err, codes}
+use Rattle.std.specs.Prelude.{Bool, true, ◌&&◌, unsigned_abs, Option, Some, None, option_and_then, Result, Ok, Err, codes}
 use Rattle.serde_json.specs.Data.{Data}
 use Rattle.hv_lineage.specs.Lineages.{TermOver, lineage_columns, filtered, projected, derived, filter_refusal, project_refusal, derive_refusal}
+use Rattle.hv_lineage.specs.Combining.{combine_refusal, combined, sample_refusal, sampled}
 use Rattle.hv_lineage.specs.declared.error.LineageErr.{LineageErr}
 use Rattle.hv_lineage.specs.declared.error.LineageErr.TheVariants as err
+use Rattle.hv_lineage.specs.declared.how.How2.{How2}
 use Rattle.hv_message.specs.declared.asked.TermAsked.{TermAsked}
-use Rattle.hv_message.specs.declared.asked.TermAsked.TheVariants.{Filter, Project, Derive}
+use Rattle.hv_message.specs.declared.asked.TermAsked.TheVariants.{Filter, Project, Derive, Sample}
 use Rattle.hv_asked.specs.declared.why.Why.{Why}
 use Rattle.hv_asked.specs.declared.why.Why.TheVariants as why
-use Rattle.hv_asked.specs.Fields.{text_at, texts_at}
+use Rattle.hv_asked.specs.Fields.{integer_at, text_at, texts_at}
 use Rattle.hv_asked.specs.Flaws.{and_then, of_field, within}
 use Rattle.hv_asked.specs.Trees.{dated_pred, expr_in, fits_expr, fits_pred, levels, pred_in, under}
+use Rattle.hv_message.specs.Samples.{is_seed, is_threshold}
 
 -- ---- what is asked for
 
@@ -23,12 +26,16 @@ project_of value = of_field (texts_at (codes "cols") value) (λ cols. Ok (Projec
 abbrev pub derive_of : Data → Result TermAsked Why
 derive_of value = of_field (text_at (codes "name") value) (λ name. of_field (under (expr_in levels) (codes "expr") value) (λ e. Ok (Derive name e)))
 
--- ---- its limits: those of its tree
+abbrev pub sample_of : Data → Result TermAsked Why
+sample_of value = of_field (integer_at (codes "threshold") value) (λ threshold. of_field (integer_at (codes "seed") value) (λ seed. Ok (Sample threshold seed)))
+
+-- ---- its limits: those of its tree, and of a sample's numbers
 
 abbrev pub fits_term : TermAsked → Bool
 fits_term (Filter p) = fits_pred p
 fits_term (Project cols) = true
 fits_term (Derive name e) = fits_expr e
+fits_term (Sample threshold seed) = is_threshold threshold && is_seed seed
 
 -- ---- what it means
 
@@ -58,6 +65,11 @@ abbrev pub applied : TermAsked → TermOver → Result TermOver Why
 applied (Filter p) lineage = let dated = dated_pred (lineage_columns lineage) p in unless_refused (filter_refusal lineage dated) (filtered lineage dated)
 applied (Project cols) lineage = unless_refused (project_refusal lineage cols) (projected lineage cols)
 applied (Derive name expr) lineage = unless_refused (derive_refusal lineage name expr) (derived lineage name expr)
+applied (Sample threshold seed) lineage = unless_refused (sample_refusal lineage) (sampled lineage (unsigned_abs seed) (unsigned_abs threshold))
+
+-- two lineages, combined
+abbrev pub both_combined : How2 → TermOver → TermOver → Result TermOver Why
+both_combined how left right = unless_refused (combine_refusal how left right) (combined how left right)
 
 -- a lineage with what is read of a value over it, where that is within its limits
 abbrev pub over : (Data → Result TermAsked Why) → Data → TermOver → Result TermOver Why

@@ -15,7 +15,7 @@ use Rattle.hv_view.specs.declared.plan.Plan.{Plan}
 use Rattle.hv_view.specs.declared.plan.Plan.TheVariants as plan
 use Rattle.hv_view.specs.declared.plan.Plan.TheVariants.{One, AutoHistogram}
 use Rattle.hv_message.specs.declared.asked.ViewAsked.{ViewAsked}
-use Rattle.hv_message.specs.declared.asked.ViewAsked.TheVariants.{Range, Distinct, Histogram, Cdf, Stacked, HeatMap, Trellis, Next, Find, Heavy, Count, Auto, Frequent}
+use Rattle.hv_message.specs.declared.asked.ViewAsked.TheVariants.{Range, Distinct, Histogram, Cdf, Stacked, HeatMap, Trellis, Next, Find, Heavy, Count, Auto, Frequent, Quantiles}
 use Rattle.hv_asked.specs.declared.asked.AxisAsked.{AxisAsked}
 use Rattle.hv_asked.specs.declared.asked.CellAsked.{CellAsked}
 use Rattle.hv_message.specs.declared.asked.InnerAsked.{InnerAsked}
@@ -27,10 +27,11 @@ use Rattle.hv_asked.specs.Axes.{are_few, axes_in, axis_in, buckets_asked, column
 use Rattle.hv_asked.specs.Constants.{is_short}
 use Rattle.hv_asked.specs.Flaws.{all_meant, and_then, map_ok}
 use Rattle.hv_asked.specs.Fields.{integer_at, text_at, texts_at}
-use Rattle.hv_asked.specs.Orders.{fits_order, order_in, order_over}
+use Rattle.hv_asked.specs.Orders.{fits_order, order_alone_in, order_in, order_over}
 use Rattle.hv_asked.specs.Trees.{test_in, under}
 use Rattle.hv_asked.specs.Values.{fit_values, value_beside, values_at}
-use Rattle.hv_asked.specs.declared.limits.TheConstants.{MAX_DISTINCT, MAX_FIND_COLUMNS, MAX_GROUPS, MAX_HEAVY, MAX_NEXT}
+use Rattle.hv_asked.specs.declared.limits.TheConstants.{MAX_DISTINCT, MAX_FIND_COLUMNS, MAX_GROUPS, MAX_HEAVY, MAX_NEXT, MAX_QUANTILES, MAX_SAMPLE}
+use Rattle.hv_message.specs.Samples.{is_seed}
 
 -- ---- what a view asks for
 
@@ -82,6 +83,11 @@ auto_of value = option_map (λ (asked : List ℕ × ℤ). Auto asked.0 asked.1) 
 abbrev pub count_of : Data → Option ViewAsked
 count_of value = option_and_then (λ col. option_map (Count col) (values_at (codes "values") value)) (text_at (codes "col") value)
 
+-- quantiles of a sample: the order, how many rows and quantiles, and the seed
+abbrev pub quantiles_of : Data → Option ViewAsked
+quantiles_of value = option_and_then (λ order. option_and_then (λ k. option_and_then (λ q.
+    option_map (Quantiles order k q) (integer_at (codes "seed") value)) (integer_at (codes "q") value)) (integer_at (codes "k") value)) (order_alone_in value)
+
 abbrev pub trellis_of : Data → Option ViewAsked
 trellis_of value = option_and_then (λ by. option_map (Trellis by) (option_and_then inner_of (get (codes "view") value))) (axis_in (codes "by") value)
 
@@ -101,6 +107,7 @@ view_with value word =
     else if bytes_eq word (codes "count") then count_of value
     else if bytes_eq word (codes "auto") then auto_of value
     else if bytes_eq word (codes "frequent") then frequent_of value
+    else if bytes_eq word (codes "quantiles") then quantiles_of value
     else None
 
 abbrev pub view_of : Data → Option ViewAsked
@@ -110,8 +117,8 @@ abbrev pub view_in : Data → Option ViewAsked
 view_in value = option_and_then view_of (get (codes "view") value)
 
 -- ---- its limits: 1 to 500 different values or keys, 1 to 1,000 heavy hitters or frequent values, at most 1,000 counted ones,
--- 1 to 64 columns of a search, and those of its axes, its order and its test. The buckets of a histogram between a column's own
--- ends are within them: they are refused where the plan is made
+-- 1 to 64 columns of a search, 1 to 10,000 rows and 2 to 100 quantiles of a sample, and those of its axes, its order, its test and
+-- its seed. The buckets of a histogram between a column's own ends are within them: they are refused where the plan is made
 
 -- what is taken of each group's rows has its own limits, wherever it is taken
 abbrev pub fits_inner : InnerAsked → Bool
@@ -135,6 +142,10 @@ is_from_one most k = int_le (pos 1) k && int_le k (pos most)
 abbrev pub fits_find : List (List ℕ) → TextTest → OrderAsked → Bool
 fits_find cols test order = nat_le 1 (length cols) && nat_le (length cols) MAX_FIND_COLUMNS && is_short test.text && fits_order order
 
+-- whether the rows, the quantiles and the seed of a sample are within their limits
+unfoldable pub fit_numbers : ℤ → ℤ → ℤ → Bool
+fit_numbers k q seed = is_from_one MAX_SAMPLE k && int_le (pos 2) q && int_le q (pos MAX_QUANTILES) && is_seed seed
+
 abbrev pub fits_view : ViewAsked → Bool
 fits_view (Range col) = true
 fits_view (Distinct col k) = is_from_one MAX_DISTINCT k
@@ -149,6 +160,7 @@ fits_view (Heavy col k) = is_from_one MAX_HEAVY k
 fits_view (Count col values) = fit_values values
 fits_view (Auto col n) = true
 fits_view (Frequent col k) = is_from_one MAX_HEAVY k
+fits_view (Quantiles order k q seed) = fits_order order && fit_numbers k q seed
 
 -- ---- what it means
 
@@ -176,6 +188,10 @@ next_plan k found = One (any.NextRows (record { order = found.0; after = found.1
 abbrev pub find_plan : List ℕ → TextTest → List OrderKey × Option (List Cell) → Plan
 find_plan cols test found = One (any.Find (record { cols = cols; test = test; order = found.0; after = found.1 }))
 
+-- the plan of a sample for quantiles, over an order without a key in it
+abbrev pub quantiles_plan : ℤ → ℤ → ℤ → List OrderKey × Option (List Cell) → Plan
+quantiles_plan k q seed found = One (any.Sample (record { order = found.0; seed = unsigned_abs seed; k = unsigned_abs k; q = unsigned_abs q }))
+
 -- the plan of the counts of values in a column
 abbrev pub count_plan : List CellAsked → ℕ × Kind → Result Plan Why
 count_plan asked column = map_ok (λ values. One (any.CountOf (record { col = column.0; values = values }))) (all_meant (value_beside column.1) asked)
@@ -201,3 +217,4 @@ planned columns (Heavy name k) = map_ok (λ (column : ℕ × Kind). One (any.Hea
 planned columns (Count name values) = and_then (count_plan values) (column_named columns name)
 planned columns (Auto name n) = and_then (auto_plan n) (column_named columns name)
 planned columns (Frequent name k) = map_ok (λ (column : ℕ × Kind). plan.Frequent column.0 (unsigned_abs k)) (column_named columns name)
+planned columns (Quantiles order k q seed) = map_ok (quantiles_plan k q seed) (order_over columns order)

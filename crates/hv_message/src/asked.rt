@@ -6,13 +6,16 @@ ghost use Rattle.hv_message.specs.Messages as means;
 ghost use Rattle.hv_message.specs.Terms as term;
 ghost use Rattle.hv_message.specs.Views as seen;
 
+use crate::samples::{is_seed, is_seed_if_given, is_threshold};
 use hv_asked::exprs::fits_expr;
 use hv_asked::values::fit_values;
 use hv_asked::{
     AxisAsked, CellAsked, MAX_COUNTS, MAX_DISTINCT, MAX_FIND_COLUMNS, MAX_GROUPS, MAX_HEAVY,
-    MAX_NEXT, OrderAsked, PAST_COUNTS, PredAsked, TableAsked, do_fit, is_short, product,
+    MAX_NEXT, MAX_QUANTILES, MAX_SAMPLE, OrderAsked, PAST_COUNTS, PredAsked, TableAsked, do_fit,
+    is_short, product,
 };
 use hv_expr::{Expr, TextTest};
+use hv_lineage::How2;
 use hv_value::{Listed, Text};
 
 /// What an operation asks for. The numbers of objects and requests are any whole numbers of 64 bits.
@@ -22,6 +25,10 @@ pub enum Asked {
     Load(TableAsked),
     /// A term over an object.
     Over(i128, TermAsked),
+    /// Two objects, the left one and the right one, combined.
+    Combine(How2, i128, i128),
+    /// The rows of an object that are picked at a threshold, and the seed by which they are, where it is given.
+    Sample(i128, i128, Option<i128>),
     /// What an object is.
     Info(i128),
     /// A view of an object.
@@ -41,6 +48,8 @@ pub enum TermAsked {
     Project(Listed<Text>),
     /// One more column, by its name, of an expression's values.
     Derive(Text, Expr),
+    /// The rows that are picked at a threshold by a seed.
+    Sample(i128, i128),
 }
 
 /// A view, before its columns are looked up.
@@ -72,6 +81,8 @@ pub enum ViewAsked {
     Auto(Text, i128),
     /// The values that are more than one in k + 1 of the cells of the column with this name, without missing ones.
     Frequent(Text, i128),
+    /// Of a sample of so many rows the keys in an order at so many even places, and the seed of the sample.
+    Quantiles(OrderAsked, i128, i128, i128),
 }
 
 /// A view of the rows of each group, before its columns are looked up.
@@ -91,8 +102,11 @@ impl Asked {
         match self {
             Asked::Load(table) => table.fits(),
             Asked::Over(_, term) => term.fits(),
+            Asked::Sample(_, threshold, seed) => {
+                is_threshold(*threshold) && is_seed_if_given(*seed)
+            }
             Asked::View(_, view) => view.fits(),
-            Asked::Info(_) | Asked::Cancel(_) | Asked::End => true,
+            Asked::Combine(_, _, _) | Asked::Info(_) | Asked::Cancel(_) | Asked::End => true,
         }
     }
 }
@@ -105,6 +119,7 @@ impl TermAsked {
             TermAsked::Filter(pred) => pred.fits(),
             TermAsked::Project(_) => true,
             TermAsked::Derive(_, expr) => fits_expr(expr),
+            TermAsked::Sample(threshold, seed) => is_threshold(*threshold) && is_seed(*seed),
         }
     }
 }
@@ -126,6 +141,7 @@ impl ViewAsked {
             ViewAsked::Heavy(_, k) | ViewAsked::Frequent(_, k) => is_from_one(MAX_HEAVY, *k),
             ViewAsked::Count(_, values) => fit_values(values.as_slice()),
             ViewAsked::Auto(_, _) => true,
+            ViewAsked::Quantiles(order, k, q, seed) => order.fits() && fit_numbers(*k, *q, *seed),
         }
     }
 }
@@ -157,6 +173,14 @@ fn is_from_one(most: u32, k: i128) -> bool
     ensures { result ≡ seen.is_from_one most k }
 {
     1 <= k && k <= i128::from(most)
+}
+
+/// Whether the rows, the quantiles and the seed of a sample are within their limits.
+#[tactic(auto, unfolding(crate::specs::Views::fit_numbers))]
+fn fit_numbers(k: i128, q: i128, seed: i128) -> bool
+    ensures { result ≡ seen.fit_numbers k q seed }
+{
+    is_from_one(MAX_SAMPLE, k) && 2 <= q && q <= i128::from(MAX_QUANTILES) && is_seed(seed)
 }
 
 /// Whether the columns, the test and the order of a search are within their limits.

@@ -6,6 +6,8 @@ ghost use Rattle.serde_json.specs.Data.{Data};
 ghost use Rattle.serde_json.specs.Read.{read};
 ghost use Rattle.hv_expr.specs.declared.expr.Expr.{Expr};
 ghost use Rattle.hv_expr.specs.declared.pred.Pred.{Pred};
+ghost use Rattle.hv_lineage.specs.Combining.{combine_refusal, sample_refusal};
+ghost use Rattle.hv_lineage.specs.declared.how.How2.{How2};
 ghost use Rattle.hv_lineage.specs.Lineages.{TermOver, derive_refusal, filter_refusal, project_refusal};
 ghost use Rattle.hv_message.specs.LineageTexts.{term_in};
 ghost use Rattle.hv_message.specs.Terms.{refusal_word};
@@ -22,7 +24,7 @@ pub fn levels_are_enough()
         → term_in n base value ≡ term_in levels base value }
 {}
 
-/// Whatever a filter, a choice of columns or a derived column is refused for has a word. So one that is refused is never
+/// Whatever a filter, a choice of columns, a derived column, a sample or a combination is refused for has a word. So one that is refused is never
 /// taken for one that isn't.
 pub fn refusals_have_words()
     ensures filter { (lineage : TermOver) (pred : Pred)
@@ -31,4 +33,8 @@ pub fn refusals_have_words()
         → IfSome (project_refusal lineage cols) (λ e. is_some (refusal_word e) ≡ true) }
     ensures derive { (lineage : TermOver) (name : List ℕ) (expr : Expr)
         → IfSome (derive_refusal lineage name expr) (λ e. is_some (refusal_word e) ≡ true) }
+    ensures sample { (lineage : TermOver)
+        → IfSome (sample_refusal lineage) (λ e. is_some (refusal_word e) ≡ true) }
+    ensures combine { (how : How2) (left right : TermOver)
+        → IfSome (combine_refusal how left right) (λ e. is_some (refusal_word e) ≡ true) }
 {}

@@ -1,7 +1,7 @@
 //! Reads lineages: a base, and the terms over it from the inside out. What a text means is `lineage_of_text`
 //! (specs/LineageTexts.antt).
 
-ghost use Rattle.std.specs.Prelude.{◌≡◌, codes};
+ghost use Rattle.std.specs.Prelude.{◌≡◌};
 ghost use Rattle.std.specs.Arc.{arc_value};
 ghost use Rattle.serde_json.specs.Find.{get};
 ghost use Rattle.serde_json.specs.View.{view};
@@ -12,7 +12,8 @@ ghost use Rattle.hv_message.specs.Meant.{IsMade, IsRead};
 use crate::Refusal;
 use crate::made::loaded;
 use crate::operations::shared;
-use crate::terms::{derive_of, filter_of, over, project_of};
+use crate::terms::{combined, derive_over, filter_over, project_over, sample_over};
+use crate::words::how2_in;
 use hv_asked::fields::{field, word};
 use hv_asked::tables::table_in;
 use hv_asked::{LEVELS, Refused, Why};
@@ -67,33 +68,43 @@ fn term_with(
     match word {
         "base" => Ok(shared(base)?),
         "filter" => {
-            let of = inner_in(alloc, levels, base, value)?;
-            over(alloc, &of, filter_of(alloc, value)?)
+            let of = inner_in(alloc, levels, base, value, "of")?;
+            filter_over(alloc, &of, value)
         }
         "project" => {
-            let of = inner_in(alloc, levels, base, value)?;
-            over(alloc, &of, project_of(alloc, value)?)
+            let of = inner_in(alloc, levels, base, value, "of")?;
+            project_over(alloc, &of, value)
         }
         "derive" => {
-            let of = inner_in(alloc, levels, base, value)?;
-            over(alloc, &of, derive_of(alloc, value)?)
+            let of = inner_in(alloc, levels, base, value, "of")?;
+            derive_over(alloc, &of, value)
+        }
+        "sample" => {
+            let of = inner_in(alloc, levels, base, value, "of")?;
+            sample_over(alloc, &of, value)
+        }
+        "combine" => {
+            let left = inner_in(alloc, levels, base, value, "left")?;
+            let right = inner_in(alloc, levels, base, value, "right")?;
+            combined(alloc, how2_in(value)?, &left, &right)
         }
         _ => Err(Refused::Word(Why::Field)),
     }
 }
 
-/// The lineage of the inner term.
+/// The lineage of the inner term under a key.
 #[cycle(term_in)]
 fn inner_in(
     alloc: Global,
     levels: u32,
     base: &Arc<Lineage>,
     value: &Value,
+    key: &str,
 ) -> Result<Arc<Lineage>, Refused>
     ensures { IsMade result
-        (of_field (get (codes "of") (view value.now)) (read.term_in levels (arc_value base.now))) }
+        (of_field (get key.now (view value.now)) (read.term_in levels (arc_value base.now))) }
 {
-    term_in(alloc, levels, base, field(value, "of")?)
+    term_in(alloc, levels, base, field(value, key)?)
 }
 
 #[tactic(auto, unfolding(crate::specs::LineageTexts::lineage_of_data))]

@@ -13,6 +13,14 @@ pub enum Message {
         id: u64,
         made: Arc<Lineage>,
     },
+    /// The rows of an object that are picked at a threshold, of 2^32nds: the session's next object. Without a seed the
+    /// session draws one. There is room for one node more over the object.
+    Sample {
+        id: u64,
+        of: Arc<Lineage>,
+        threshold: u64,
+        seed: Option<u64>,
+    },
     /// What an object is.
     Info {
         id: u64,

@@ -1,10 +1,11 @@
 //! What is put over a lineage by a message or by a term of a lineage's text: what it asks for, and what it makes. The
 //! definitions are in specs/Terms.antt.
 
-ghost use Rattle.std.specs.Prelude.{◌≡◌, true, IfOk};
+ghost use Rattle.std.specs.Prelude.{◌≡◌, ◌≤◌, ◌^◌, true, IfOk};
 ghost use Rattle.std.specs.Arc.{arc_value};
 ghost use Rattle.serde_json.specs.View.{view};
 ghost use Rattle.hv_expr.specs.Checks.{has_fit_factors};
+ghost use Rattle.hv_lineage.specs.Combining.{sample_refusal, sampled};
 ghost use Rattle.hv_lineage.specs.Lineages.{derive_refusal, derived, filter_refusal, filtered, project_refusal, projected};
 ghost use Rattle.hv_asked.specs.Flaws.{and_then, within};
 ghost use Rattle.hv_asked.specs.Meant.{Tells};
@@ -12,12 +13,13 @@ ghost use Rattle.hv_message.specs.Meant.{HasFitFactors, IsMade, refused_of};
 ghost use Rattle.hv_message.specs.Terms as term;
 
 use crate::asked::TermAsked;
+use crate::samples::{seed_of, threshold_of};
 use hv_asked::exprs::expr_in;
-use hv_asked::fields::{field, name, names};
+use hv_asked::fields::{field, name, names, number};
 use hv_asked::preds::pred_in;
 use hv_asked::{LEVELS, Refused, Why};
 use hv_expr::{Expr, Pred};
-use hv_lineage::{Lineage, LineageErr};
+use hv_lineage::{How2, Lineage, LineageErr};
 use hv_value::{Listed, Text};
 use serde_json::Value;
 use std::alloc::Global;
@@ -50,12 +52,66 @@ pub(crate) fn derive_of(alloc: Global, value: &Value) -> Result<TermAsked, Refus
     Ok(TermAsked::Derive(name, expr))
 }
 
-/// The lineage with what is asked for over it, where that is within its limits.
-pub(crate) fn over(
+/// The sample that a value asks for.
+fn sample_of(value: &Value) -> Result<TermAsked, Refused>
+    ensures value { Tells result (term.sample_of (view value.now)) }
+    ensures fit { IfOk result HasFitFactors }
+{
+    let threshold = number(value, "threshold")?;
+    let seed = number(value, "seed")?;
+    Ok(TermAsked::Sample(threshold, seed))
+}
+
+/// The lineage with the filter that a value asks for over it, where that is within its limits.
+pub(crate) fn filter_over(
     alloc: Global,
     lineage: &Arc<Lineage>,
-    asked: TermAsked,
+    value: &Value,
 ) -> Result<Arc<Lineage>, Refused>
+    ensures { IsMade result
+        (term.over term.filter_of (view value.now) (arc_value lineage.now)) }
+{
+    over(alloc, lineage, filter_of(alloc, value)?)
+}
+
+/// The lineage with the choice of columns that a value asks for over it, where that is within its limits.
+pub(crate) fn project_over(
+    alloc: Global,
+    lineage: &Arc<Lineage>,
+    value: &Value,
+) -> Result<Arc<Lineage>, Refused>
+    ensures { IsMade result
+        (term.over term.project_of (view value.now) (arc_value lineage.now)) }
+{
+    over(alloc, lineage, project_of(alloc, value)?)
+}
+
+/// The lineage with the derivation of a column that a value asks for over it, where that is within its limits.
+pub(crate) fn derive_over(
+    alloc: Global,
+    lineage: &Arc<Lineage>,
+    value: &Value,
+) -> Result<Arc<Lineage>, Refused>
+    ensures { IsMade result
+        (term.over term.derive_of (view value.now) (arc_value lineage.now)) }
+{
+    over(alloc, lineage, derive_of(alloc, value)?)
+}
+
+/// The lineage with the sample that a value asks for over it, where that is within its limits.
+pub(crate) fn sample_over(
+    alloc: Global,
+    lineage: &Arc<Lineage>,
+    value: &Value,
+) -> Result<Arc<Lineage>, Refused>
+    ensures { IsMade result
+        (term.over term.sample_of (view value.now) (arc_value lineage.now)) }
+{
+    over(alloc, lineage, sample_of(value)?)
+}
+
+/// The lineage with what is asked for over it, where that is within its limits.
+fn over(alloc: Global, lineage: &Arc<Lineage>, asked: TermAsked) -> Result<Arc<Lineage>, Refused>
     requires { HasFitFactors asked }
     ensures { IsMade result
         (and_then (λ fit. term.applied fit (arc_value lineage.now)) (within term.fits_term asked)) }
@@ -84,6 +140,9 @@ pub(crate) fn applied(
         }
         TermAsked::Project(cols) => projected(alloc, lineage, cols),
         TermAsked::Derive(name, expr) => derived(alloc, lineage, name, expr),
+        TermAsked::Sample(threshold, seed) => {
+            sampled(alloc, lineage, seed_of(seed), threshold_of(threshold))
+        }
     }
 }
 
@@ -119,6 +178,33 @@ fn derived(
         (derived (arc_value lineage.now) name expr)) }
 {
     Lineage::derive(alloc, lineage, name, expr).map_err(refused_of)
+}
+
+fn sampled(
+    alloc: Global,
+    lineage: &Arc<Lineage>,
+    seed: u64,
+    threshold: u64,
+) -> Result<Arc<Lineage>, Refused>
+    requires { threshold ≤ 2 ^ 32 }
+    ensures { IsMade result
+        (term.unless_refused (sample_refusal (arc_value lineage.now))
+        (sampled (arc_value lineage.now) seed threshold)) }
+{
+    Lineage::sample(alloc, lineage, seed, threshold).map_err(refused_of)
+}
+
+/// Two lineages, combined.
+pub(crate) fn combined(
+    alloc: Global,
+    how: How2,
+    left: &Arc<Lineage>,
+    right: &Arc<Lineage>,
+) -> Result<Arc<Lineage>, Refused>
+    ensures { IsMade result
+        (term.both_combined how (arc_value left.now) (arc_value right.now)) }
+{
+    Lineage::combine(alloc, how, left, right).map_err(refused_of)
 }
 
 /// Why a lineage was refused.

@@ -1,6 +1,6 @@
 //! Views that a message asks for. What each means is said in specs/Views.antt.
 
-ghost use Rattle.std.specs.Prelude.{◌≡◌, pos, true, IfOk};
+ghost use Rattle.std.specs.Prelude.{◌≡◌, pos, true, unsigned_abs, IfOk};
 ghost use Rattle.std.specs.List.{All, list_all};
 ghost use Rattle.serde_json.specs.View.{view};
 ghost use Rattle.hv_value.specs.declared.cell.Kind.TheVariants as kind;
@@ -14,9 +14,10 @@ ghost use Rattle.hv_message.specs.declared.asked.ViewAsked.TheVariants as wanted
 ghost use Rattle.hv_message.specs.Views as seen;
 
 use crate::asked::{InnerAsked, ViewAsked};
+use crate::samples::seed_of;
 use hv_asked::axes::{axes_in, axis_in, column, one_axis, three_axes, two_axes};
 use hv_asked::fields::{field, name, names, number, word};
-use hv_asked::orders::{order_in, order_over};
+use hv_asked::orders::{order_alone_in, order_in, order_over};
 use hv_asked::preds::test_in;
 use hv_asked::values::{values_at, values_beside};
 use hv_asked::{AxisAsked, CellAsked, OrderAsked, Refused, Why};
@@ -27,9 +28,10 @@ use hv_grid::{ByAxis, HeatMap, Stacked};
 use hv_heavy::{CountOf, MisraGries};
 use hv_hist::{Cdf, Histogram};
 use hv_next::NextRows;
+use hv_quant::Sample;
 use hv_range::{Distinct, Range};
 use hv_sketch::Grouped;
-use hv_value::{Kind, Listed, Schema, Text};
+use hv_value::{Kind, Listed, Order, Schema, Text};
 use hv_view::{AnyView, Plan};
 use serde_json::Value;
 use std::alloc::Global;
@@ -117,6 +119,16 @@ fn frequent_of(alloc: Global, value: &Value) -> Result<ViewAsked, Refused>
     Ok(ViewAsked::Frequent(col, k))
 }
 
+fn quantiles_of(alloc: Global, value: &Value) -> Result<ViewAsked, Refused>
+    ensures { IsField result (seen.quantiles_of (view value.now)) }
+{
+    let order = order_alone_in(alloc, value)?;
+    let k = number(value, "k")?;
+    let q = number(value, "q")?;
+    let seed = number(value, "seed")?;
+    Ok(ViewAsked::Quantiles(order, k, q, seed))
+}
+
 fn trellis_of(alloc: Global, value: &Value) -> Result<ViewAsked, Refused>
     ensures { IsField result (seen.trellis_of (view value.now)) }
 {
@@ -156,6 +168,7 @@ fn view_of(alloc: Global, value: &Value) -> Result<ViewAsked, Refused>
         "count" => count_of(alloc, value),
         "auto" => auto_of(alloc, value),
         "frequent" => frequent_of(alloc, value),
+        "quantiles" => quantiles_of(alloc, value),
         _ => Err(Refused::Word(Why::Field)),
     }
 }
@@ -211,6 +224,9 @@ pub(crate) fn planned(alloc: Global, schema: &Schema, wanted: ViewAsked) -> Resu
             let (col, _) = column(schema, &name)?;
             Ok(Plan::Frequent { col, k: k as u32 })
         }
+        ViewAsked::Quantiles(order, k, q, seed) => {
+            quantiles_over(alloc, schema, order, k, q, seed)
+        }
     }
 }
 
@@ -254,6 +270,38 @@ fn next_over(alloc: Global, schema: &Schema, asked: OrderAsked, k: u32) -> Resul
 {
     let (order, after) = order_over(alloc, schema, asked)?;
     Ok(Plan::One(AnyView::NextRows(NextRows { order, after, k })))
+}
+
+/// The plan of a sample of `k` rows at most, for `q` quantiles.
+fn quantiles_over(
+    alloc: Global,
+    schema: &Schema,
+    asked: OrderAsked,
+    k: i128,
+    q: i128,
+    seed: i128,
+) -> Result<Plan, Refused>
+    requires order { fits_order asked ≡ true }
+    requires numbers { seen.fit_numbers k q seed ≡ true }
+    ensures value { Tells result (map_ok (seen.quantiles_plan k q seed) (order_over schema.now asked)) }
+    ensures fits { IfOk result (λ plan. FitsPlan plan schema.now) }
+{
+    let (order, _) = order_over(alloc, schema, asked)?;
+    Ok(Plan::One(AnyView::Sample(sample(order, k, q, seed))))
+}
+
+/// A sample of `k` rows at most, for `q` quantiles.
+#[tactic(auto, unfolding(crate::specs::Views::fit_numbers))]
+fn sample(order: Order, k: i128, q: i128, seed: i128) -> Sample
+    requires { seen.fit_numbers k q seed ≡ true }
+    ensures { result ≡ record {
+      order = order;
+      seed = unsigned_abs seed;
+      k = unsigned_abs k;
+      q = unsigned_abs q;
+    } }
+{
+    Sample::new(order, seed_of(seed), k as u32, q as u32)
 }
 
 /// The plan of a search for a text in the columns with these names.
