@@ -28,7 +28,7 @@ use Rattle.hv_lineage.specs.declared.base.Base.TheVariants as base
 use Rattle.hv_lineage.specs.declared.term.Term.{Term, ind-Term, map-Term, roll-Term}
 use Rattle.hv_lineage.specs.declared.term.Term.TheOpen.{Term-F}
 use Rattle.hv_lineage.specs.declared.term.Term.TheVariants as term
-use Rattle.hv_lineage.proofs.TermNodes.{AreFit, depth-Base, depth-Derive, depth-Filter, depth-Project, fold-Base, fold-Derive, fold-Filter, fold-Project, here-Derive, here-Filter, inner-Derive, inner-Filter, inner-Project}
+use Rattle.hv_lineage.proofs.TermNodes.{AreFit, depth-Base, depth-Combine, depth-Derive, depth-Filter, depth-Project, depth-Sample, fold-Base, fold-Combine, fold-Derive, fold-Filter, fold-Project, fold-Sample, here-Derive, here-Filter, inner-Derive, inner-Filter, inner-Project, inner-Sample, inner-left, inner-right}
 use Rattle.hv_reply.specs.Lineages.{base_data, column_data, expr_data, expr_node_data, lineage_data, pred_data, pred_node_data, term_data, term_node_data}
 use Rattle.hv_reply.specs.Values.{cell_data, day_data}
 use Rattle.hv_reply.proofs.ExprBack.{not_deep}
@@ -143,6 +143,21 @@ module _ (columns : Columns) where
         depth-Derive of.0 name e,
         of.1 (inner-Derive columns of.0 name e fit),
         expr_bound (columns_of columns of.0) e (here-Derive columns of.0 name e fit).value,
+      ))
+  term_layer (Term-F.Sample of seed threshold) = subst DeepTerm (sym (term.rolls-Sample of.0 seed threshold)) (λ fit.
+      omega (
+        arith,
+        ap depth (fold-Sample Data term_node_data of.0 seed threshold),
+        depth-Sample of.0 seed threshold,
+        of.1 (inner-Sample columns of.0 seed threshold fit),
+      ))
+  term_layer (Term-F.Combine how left right) = subst DeepTerm (sym (term.rolls-Combine how left.0 right.0)) (λ fit.
+      omega (
+        arith,
+        ap depth (fold-Combine Data term_node_data how left.0 right.0),
+        depth-Combine how left.0 right.0,
+        left.1 (inner-left columns how left.0 right.0 fit),
+        right.1 (inner-right columns how left.0 right.0 fit),
       ))
 
   term_bound : (t : Term) → DeepTerm t

@@ -6,7 +6,7 @@ use Rattle.hv_lineage.specs.Lineages.{IsLineage, TermOver}
 use Rattle.hv_lineage.specs.declared.term.Term.{Term, ind-Term, map-Term, roll-Term}
 use Rattle.hv_lineage.specs.declared.term.Term.TheOpen.{Term-F}
 use Rattle.hv_lineage.specs.declared.term.Term.TheVariants as term
-use Rattle.hv_lineage.proofs.TermNodes.{AreFit, fold-Base, fold-Derive, fold-Filter, fold-Project, here-Derive, inner-Derive, inner-Filter, inner-Project}
+use Rattle.hv_lineage.proofs.TermNodes.{AreFit, fold-Base, fold-Combine, fold-Derive, fold-Filter, fold-Project, fold-Sample, here-Derive, inner-Derive, inner-Filter, inner-Project, inner-Sample, inner-left, inner-right}
 use Rattle.hv_value.specs.Schema.{Columns}
 use Rattle.hv_reply.specs.Lineages.{fit_term_node, has_fit_numbers}
 
@@ -25,6 +25,12 @@ module _ (columns : Columns) where
       let below : has_fit_numbers of.0 ≡ true = of.1 (inner-Derive columns of.0 name e fit) in
       let here : has_fit_factors e ≡ true = (here-Derive columns of.0 name e fit).factors in
       fold-Derive Bool fit_term_node of.0 name e ∙ rw (below, here) refl)
+  layer (Term-F.Sample of seed threshold) = subst FitTerm (sym (term.rolls-Sample of.0 seed threshold)) (λ fit.
+      fold-Sample Bool fit_term_node of.0 seed threshold ∙ of.1 (inner-Sample columns of.0 seed threshold fit))
+  layer (Term-F.Combine how left right) = subst FitTerm (sym (term.rolls-Combine how left.0 right.0)) (λ fit.
+      let first : has_fit_numbers left.0 ≡ true = left.1 (inner-left columns how left.0 right.0 fit) in
+      let second : has_fit_numbers right.0 ≡ true = right.1 (inner-right columns how left.0 right.0 fit) in
+      fold-Combine Bool fit_term_node how left.0 right.0 ∙ rw (first, second) refl)
 
   term_fit : (t : Term) → FitTerm t
   term_fit = ind-Term FitTerm (λ x y is. subst (λ z. FitTerm (roll-Term z)) is (layer y))

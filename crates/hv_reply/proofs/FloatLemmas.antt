@@ -28,7 +28,7 @@ use Rattle.hv_reply.specs.declared.reply.Reply.{Reply}
 use Rattle.hv_reply.specs.declared.reply.Reply.TheVariants as reply
 use Rattle.hv_reply.specs.Lineages.{base_data, columns_data, expr_data, expr_node_data, lineage_data, pred_data, pred_node_data, term_data, term_node_data, texts_data}
 use Rattle.hv_reply.specs.Replies.{reply_data}
-use Rattle.hv_reply.specs.Values.{cell_data, day_data, frequent_pair_data, grid_data, heat_map_data, heavy_pair_data, histogram_data, key_or_null, list_of, next_row_data, shown_data, sum_data, whole, whole_or_null}
+use Rattle.hv_reply.specs.Values.{cell_data, day_data, frequent_pair_data, grid_data, heat_map_data, heavy_pair_data, histogram_data, key_data, key_or_null, list_of, next_row_data, shown_data, sum_data, whole, whole_or_null}
 
 -- ---- numbers, cells and lists
 
@@ -91,6 +91,10 @@ key_plain : (key : Option (List Cell)) → has_float (key_or_null key) ≡ false
 key_plain None = refl
 key_plain (Some key) = cells key
 
+keys : (ks : List (List Cell)) → has_float (list_of (map key_data ks)) ≡ false
+keys [] = refl
+keys (k ∷ ks) = rw (cells k) (keys ks)
+
 heavy_pairs : (pairs : List HeavyPair) → has_float (list_of (map heavy_pair_data pairs)) ≡ false
 heavy_pairs [] = refl
 heavy_pairs (pair ∷ pairs) = rw (cell_plain pair.value) (heavy_pairs pairs)
@@ -112,6 +116,7 @@ shown_plain (shown.NextRows next) = rw (next_rows next.rows) refl
 shown_plain (shown.Find find) = rw (key_plain find.first) refl
 shown_plain (shown.Heavy heavy) = rw (heavy_pairs heavy.pairs) refl
 shown_plain (shown.CountOf count) = rw (wholes count.counts) refl
+shown_plain (shown.Quantiles sample) = rw (keys sample.quantiles) refl
 shown_plain (shown.Auto auto) = rw (wholes auto.counts, cell_plain auto.hi, cell_plain auto.lo) refl
 shown_plain (shown.Frequent frequent) = rw (frequent_pairs frequent.pairs) refl
 
@@ -178,6 +183,8 @@ term_layer Term-F.Base = refl
 term_layer (Term-F.Filter of p) = rw (of.1, pred_plain p) refl
 term_layer (Term-F.Project of cols) = rw (texts cols, of.1) refl
 term_layer (Term-F.Derive of name e) = rw (expr_plain e, of.1) refl
+term_layer (Term-F.Sample of seed threshold) = rw of.1 refl
+term_layer (Term-F.Combine how left right) = rw (left.1, right.1) refl
 
 term_plain : (t : Term) → PlainTerm t
 unfolding term_data

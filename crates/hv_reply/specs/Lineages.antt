@@ -16,7 +16,8 @@ use Rattle.hv_lineage.specs.declared.term.Term.{Term, fold-Term}
 use Rattle.hv_lineage.specs.declared.term.Term.TheOpen.{Term-F}
 use Rattle.hv_lineage.specs.Lineages.{TermOver}
 use Rattle.hv_asked.specs.Words.{how_word, kind_word, rel_word}
-use Rattle.hv_reply.specs.Values.{cell_data, list_of}
+use Rattle.hv_message.specs.Words.{how2_word}
+use Rattle.hv_reply.specs.Values.{cell_data, list_of, whole}
 
 -- ---- schemas and bases
 
@@ -99,6 +100,14 @@ term_node_data (Term-F.Derive of name e) = object (member (codes "expr") (expr_d
     (member (codes "name") (string name)
     (member (codes "of") of
     (member (codes "t") (string (codes "derive")) no_members))))
+term_node_data (Term-F.Sample of seed threshold) = object (member (codes "of") of
+    (member (codes "seed") (whole seed)
+    (member (codes "t") (string (codes "sample"))
+    (member (codes "threshold") (whole threshold) no_members))))
+term_node_data (Term-F.Combine how left right) = object (member (codes "how") (string (how2_word how))
+    (member (codes "left") left
+    (member (codes "right") right
+    (member (codes "t") (string (codes "combine")) no_members))))
 
 -- a term
 unfoldable pub term_data : Term → Data
@@ -110,6 +119,8 @@ fit_term_node Term-F.Base = true
 fit_term_node (Term-F.Filter of p) = of
 fit_term_node (Term-F.Project of cols) = of
 fit_term_node (Term-F.Derive of name e) = of && has_fit_factors e
+fit_term_node (Term-F.Sample of seed threshold) = of
+fit_term_node (Term-F.Combine how left right) = left && right
 
 -- whether each factor and summand of a term's expressions is a number of 64 bits, with a sign or without
 unfoldable pub has_fit_numbers : Term → Bool

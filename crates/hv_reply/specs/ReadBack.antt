@@ -51,12 +51,14 @@ pub record IsGivenExpr (e : Expr) : Type 0 where
   pub few : expr_nodes e ≤ MAX_NODES
   pub texts : has_short_texts e ≡ true
 
--- the tree of a node is
+-- the tree of a node is, where it has one
 abbrev pub IsGivenNode : Term-F Term → Type 0
 IsGivenNode Term-F.Base = Unit {0}
 IsGivenNode (Term-F.Filter of p) = IsGivenPred p
 IsGivenNode (Term-F.Project of cols) = Unit {0}
 IsGivenNode (Term-F.Derive of name e) = IsGivenExpr e
+IsGivenNode (Term-F.Sample of seed threshold) = Unit {0}
+IsGivenNode (Term-F.Combine how left right) = Unit {0}
 
 -- a base that a catalog has: its own table, or a named one of so many partitions
 abbrev pub IsKnownBase : Tables → Base → Type 0

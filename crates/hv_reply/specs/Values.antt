@@ -18,6 +18,7 @@ use Rattle.hv_hist.specs.declared.shown.CdfShown.{CdfShown}
 use Rattle.hv_hist.specs.declared.shown.HistogramShown.{HistogramShown}
 use Rattle.hv_next.specs.declared.summary.NextRow.{NextRow}
 use Rattle.hv_next.specs.declared.summary.NextSummary.{NextSummary}
+use Rattle.hv_quant.specs.declared.value.SampleValue.{SampleValue}
 use Rattle.hv_view.specs.declared.auto.AutoShown.{AutoShown}
 use Rattle.hv_view.specs.declared.frequent.FrequentPair.{FrequentPair}
 use Rattle.hv_view.specs.declared.frequent.FrequentShown.{FrequentShown}
@@ -84,26 +85,36 @@ abbrev pub groups_data : List Data → ℕ → Data
 groups_data groups rest = object (member (codes "groups") (list_of groups)
     (member (codes "rest") (whole rest) no_members))
 
--- a key, its cells in turn, and how many rows have it
+-- a key: its cells in turn
+abbrev pub key_data : List Cell → Data
+key_data key = list_of (map cell_data key)
+
+-- a key, and how many rows have it
 abbrev pub next_row_data : NextRow → Data
 next_row_data row = object (member (codes "count") (whole row.count)
-    (member (codes "key") (list_of (map cell_data row.key)) no_members))
+    (member (codes "key") (key_data row.key) no_members))
 
 -- how many rows aren't above, and the keys above, in turn
 abbrev pub next_data : NextSummary → Data
 next_data next = object (member (codes "before") (whole next.before)
     (member (codes "rows") (list_of (map next_row_data next.rows)) no_members))
 
--- the cells of a key, or null where there is none
+-- a key, or null where there is none
 abbrev pub key_or_null : Option (List Cell) → Data
 key_or_null None = null
-key_or_null (Some key) = list_of (map cell_data key)
+key_or_null (Some key) = key_data key
 
 -- how many rows that match are above, how many aren't, and the least key above
 abbrev pub find_data : FindSummary → Data
 find_data find = object (member (codes "above") (whole find.above)
     (member (codes "before") (whole find.before)
     (member (codes "first") (key_or_null find.first) no_members)))
+
+-- the quantiles of a sample, each a key, how many rows it has, and its seed
+abbrev pub quantiles_data : SampleValue → Data
+quantiles_data sample = object (member (codes "quantiles") (list_of (map key_data sample.quantiles))
+    (member (codes "rows") (whole sample.rows)
+    (member (codes "seed") (whole sample.seed) no_members)))
 
 -- a list of a value and a number
 abbrev pub counted_data : Cell → ℕ → Data
@@ -159,5 +170,6 @@ shown_data (shown.NextRows next) = next_data next
 shown_data (shown.Find find) = find_data find
 shown_data (shown.Heavy heavy) = heavy_data heavy
 shown_data (shown.CountOf count) = count_data count
+shown_data (shown.Quantiles sample) = quantiles_data sample
 shown_data (shown.Auto auto) = auto_data auto
 shown_data (shown.Frequent frequent) = frequent_data frequent

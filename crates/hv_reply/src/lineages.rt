@@ -3,12 +3,14 @@
 ghost use Rattle.std.specs.Prelude.{◌≡◌, map, codes, true, IfOk};
 ghost use Rattle.serde_json.specs.Data.{string, object, member, no_members};
 ghost use Rattle.serde_json.specs.View.{view};
+ghost use Rattle.hv_message.specs.Words.{how2_word};
 ghost use Rattle.hv_reply.specs.Lineages.{base_data, column_data, columns_data, expr_data, has_fit_numbers, lineage_data, pred_data, term_data, texts_data};
+ghost use Rattle.hv_reply.specs.Values.{whole};
 
 use crate::exprs::expr_value;
 use crate::preds::pred_value;
-use hv_lineage::{Base, Lineage, Term};
-use hv_message::kind_word;
+use hv_lineage::{Base, How2, Lineage, Term};
+use hv_message::{how2_word, kind_word};
 use hv_value::{Kind, Mem, Schema, Text};
 use serde_json::{Value, json};
 use std::alloc::{AllocError, Global};
@@ -99,6 +101,19 @@ fn term_value(alloc: Global, term: &Term) -> Mem<Value>
             let expr = expr_value(alloc, expr.get())?;
             Ok(derive_value(alloc, expr, name.get().as_str(), of)?)
         }
+        Term::Sample {
+            of,
+            seed,
+            threshold,
+        } => {
+            let of = term_value(alloc, of.get())?;
+            Ok(sample_value(alloc, of, *seed, *threshold)?)
+        }
+        Term::Combine { how, left, right } => {
+            let left = term_value(alloc, left.get())?;
+            let right = term_value(alloc, right.get())?;
+            Ok(combine_value(alloc, *how, left, right)?)
+        }
     }
 }
 
@@ -128,6 +143,26 @@ fn derive_value(alloc: Global, expr: Value, name: &str, of: Value) -> Result<Val
         (member (codes "t") (string (codes "derive")) no_members))))) }
 {
     json!(in alloc; {"expr": expr, "name": name, "of": of, "t": "derive"})
+}
+
+fn sample_value(alloc: Global, of: Value, seed: u64, threshold: u64) -> Result<Value, AllocError>
+    ensures { IfOk result
+        (λ value. view value ≡ object (member (codes "of") (view of)
+        (member (codes "seed") (whole seed)
+        (member (codes "t") (string (codes "sample"))
+        (member (codes "threshold") (whole threshold) no_members))))) }
+{
+    json!(in alloc; {"of": of, "seed": seed, "t": "sample", "threshold": threshold})
+}
+
+fn combine_value(alloc: Global, how: How2, left: Value, right: Value) -> Result<Value, AllocError>
+    ensures { IfOk result
+        (λ value. view value ≡ object (member (codes "how") (string (how2_word how))
+        (member (codes "left") (view left)
+        (member (codes "right") (view right)
+        (member (codes "t") (string (codes "combine")) no_members))))) }
+{
+    json!(in alloc; {"how": how2_word(how), "left": left, "right": right, "t": "combine"})
 }
 
 /// A lineage as JSON: its base and its term.

@@ -1,12 +1,13 @@
-//! The values of next rows and of searches as JSON. What each is is said in specs/Values.antt.
+//! The values of next rows, of searches and of samples as JSON. What each is is said in specs/Values.antt.
 
 ghost use Rattle.std.specs.Prelude.{◌≡◌, map, IfOk};
 ghost use Rattle.serde_json.specs.View.{view};
-ghost use Rattle.hv_reply.specs.Values.{find_data, key_or_null, list_of, next_data, next_row_data};
+ghost use Rattle.hv_reply.specs.Values.{find_data, key_data, key_or_null, list_of, next_data, next_row_data, quantiles_data};
 
 use crate::values::cells_value;
 use hv_find::FindSummary;
 use hv_next::{NextRow, NextSummary};
+use hv_quant::SampleValue;
 use hv_value::{Cell, Listed, Mem};
 use serde_json::{Value, json};
 use std::alloc::Global;
@@ -54,4 +55,23 @@ pub(crate) fn find_value(alloc: Global, find: &FindSummary) -> Mem<Value>
 {
     let first = key_or_null(alloc, &find.first)?;
     Ok(json!(in alloc; {"above": find.above, "before": find.before, "first": first})?)
+}
+
+/// Keys, in turn.
+fn key_list(alloc: Global, keys: &[Listed<Cell>]) -> Mem<Value>
+    ensures { IfOk result (λ value. view value ≡ list_of (map key_data keys.now)) }
+{
+    let mut list = Vec::with_capacity(alloc, keys.len())?;
+    for key in keys {
+        list.push(cells_value(alloc, key.as_slice())?)?;
+    }
+    Ok(Value::Array(list))
+}
+
+/// The quantiles of a sample, how many rows it has, and its seed.
+pub(crate) fn quantiles_value(alloc: Global, sample: &SampleValue) -> Mem<Value>
+    ensures { IfOk result (λ value. view value ≡ quantiles_data sample.now) }
+{
+    let quantiles = key_list(alloc, sample.quantiles.as_slice())?;
+    Ok(json!(in alloc; {"quantiles": quantiles, "rows": sample.rows, "seed": sample.seed})?)
 }

@@ -12,7 +12,6 @@ use crate::values::shown_value;
 use crate::{Reply, lineage_value, reply_value, write_lineage, write_reply};
 use hv_lineage::{Base, Lineage};
 use hv_member::PartSet;
-use hv_message::Why;
 use hv_value::{Catalog, Kind, Listed, Memory, Schema, Text};
 use hv_view::Shown;
 use sqlite_items::Items;
@@ -34,7 +33,7 @@ fn two_parts(alloc: Global) -> Result<PartSet, Memory> {
     Ok(parts)
 }
 
-// No script draws a seed, lists some partitions only, or is refused memory.
+// No script shows a value over some partitions only, or is refused memory.
 #[test]
 fn replies_that_no_script_reaches_have_their_texts(rt: HostRuntime) -> Result<(), Fail> {
     let alloc = rt.alloc();
@@ -43,14 +42,6 @@ fn replies_that_no_script_reaches_have_their_texts(rt: HostRuntime) -> Result<()
         values: Listed::new(alloc),
     };
     for (reply, text) in [
-        (
-            Reply::Made {
-                id: 2,
-                made: 1,
-                seed: Some(42),
-            },
-            "{\"id\":2,\"made\":1,\"seed\":42}",
-        ),
         (
             Reply::Final {
                 id: 5,
@@ -71,17 +62,6 @@ fn replies_that_no_script_reaches_have_their_texts(rt: HostRuntime) -> Result<()
     .as_slice()
     {
         assert_eq!(rt; text_of_reply(alloc, reply)?.as_str(), *text);
-    }
-    Ok(())
-}
-
-#[test]
-fn words_that_no_message_reaches_are_written(rt: HostRuntime) -> Result<(), Fail> {
-    let alloc = rt.alloc();
-    for (why, word) in [(Why::Base, "base"), (Why::Differs, "differs")] {
-        let text = text_of_reply(alloc, &Reply::Malformed { id: None, why })?;
-        let want = format!(in alloc; "{{\"error\":\"malformed\",\"id\":null,\"why\":\"{word}\"}}")?;
-        assert_eq!(rt; text.as_str(), want.as_str());
     }
     Ok(())
 }

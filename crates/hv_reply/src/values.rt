@@ -15,7 +15,7 @@ use crate::charts::{
     cdf_value, heat_map_value, heat_maps_value, histogram_value, histograms_value, stacked_value,
 };
 use crate::counts::{auto_value, count_value, frequent_value, heavy_value};
-use crate::rows::{find_value, next_value};
+use crate::rows::{find_value, next_value, quantiles_value};
 use hv_value::{Cell, Mem, date_text};
 use hv_view::Shown;
 use serde_json::{Value, json};
@@ -139,6 +139,7 @@ pub fn shown_value(alloc: Global, shown: &Shown) -> Mem<Value>
         Shown::Find(find) => find_value(alloc, find),
         Shown::Heavy(heavy) => heavy_value(alloc, heavy),
         Shown::CountOf(count) => count_value(alloc, count),
+        Shown::Quantiles(sample) => quantiles_value(alloc, sample),
         Shown::Auto(auto) => auto_value(alloc, auto),
         Shown::Frequent(frequent) => frequent_value(alloc, frequent),
     }
