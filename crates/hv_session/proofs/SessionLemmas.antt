@@ -2,7 +2,8 @@
 use Rattle.std.proofs.Common.{◌≡◌, ◌∙◌, sym, refl, ap, subst, ℕ, zero, suc, ◌≤◌, arith, List, [], ◌∷◌, ◌++◌, length, map, ◌+◌, Bool, Option, Some, None, take, drop}
 use Rattle.std.specs.Prelude.{◌==◌, position, not, nat_lt, cond}
 use Rattle.std.specs.List.{AllByRecursion, position_or_len}
-use Rattle.std.proofs.lemmas.List.{map-append, take-map, drop-map, length-map}
+use Rattle.std.proofs.lemmas.List.{map-append, take-map, drop-map, length-append, length-map}
+use Rattle.hv_lineage.specs.Lineages.{TermOver}
 use Rattle.hv_message.specs.Messages.{Known, without}
 use Rattle.hv_message.specs.Messages as ids
 use Rattle.hv_session.specs.declared.request.OpenRequest.{OpenRequest}
@@ -58,29 +59,42 @@ fit-without None requests h = h
 fit-without (Some place) requests h = fit-append (take place requests) (drop (suc place) requests) (fit-take place requests h) (fit-drop (suc place) requests h)
 
 -- without the first request of an id a session keeps to itself
-pub session-closed : (k : Known) (id : ℕ) (requests : List OpenRequest) → IsSession k requests
-    → IsSession (record k { requests = ids.closed id k.requests }) (closed id requests)
-session-closed k id requests h = record {
+pub session-closed : (k : Known) (id : ℕ) (requests : List OpenRequest) (drawn : ℕ) → IsSession k requests drawn
+    → IsSession (record k { requests = ids.closed id k.requests }) (closed id requests) drawn
+session-closed k id requests drawn h = record {
   ids = ap (ids.closed id) h.ids ∙ ap (λ place. without place (ids_of requests)) (position-ids id requests) ∙ sym (ids-without (position (has_id id) requests) requests);
   fit = fit-without (position (has_id id) requests) requests h.fit;
+  made = h.made;
+}
+
+-- with one object more a session keeps to itself
+pub session-grown : (k : Known) (made : TermOver) (requests : List OpenRequest) (drawn : ℕ) → IsSession k requests drawn
+    → IsSession (record k { objects = k.objects ++ made ∷ [] }) requests drawn
+session-grown k made requests drawn h = record {
+  ids = h.ids;
+  fit = h.fit;
+  made = let more = length-append k.objects (made ∷ []) in let before = h.made in omega (arith, more, before);
+}
+
+-- also where a seed was drawn for it
+pub session-drawn : (k : Known) (made : TermOver) (requests : List OpenRequest) (drawn : ℕ) → IsSession k requests drawn
+    → IsSession (record k { objects = k.objects ++ made ∷ [] }) requests (drawn + 1)
+session-drawn k made requests drawn h = record {
+  ids = h.ids;
+  fit = h.fit;
+  made = let more = length-append k.objects (made ∷ []) in let before = h.made in omega (arith, more, before);
 }
 
 -- what contracts see of a session
-abbrev pub seen : Known → List OpenRequest → Held
-seen k requests = record { tables = k.tables; talk = talk_held k requests }
+abbrev pub seen : Known → List OpenRequest → ℕ → Held
+seen k requests drawn = record { tables = k.tables; talk = talk_held k requests drawn }
 
 -- what it knows is what its talk says
-pub known-is : (k : Known) (requests : List OpenRequest) (held : Held) → IsSession k requests → seen k requests ≡ held → known held.tables held.talk ≡ k
-known-is k requests held keeps is = ap (λ (h : Held). known h.tables h.talk) (sym is) ∙ ap (λ numbers. record k { requests = numbers }) (sym keeps.ids)
+pub known-is : (k : Known) (requests : List OpenRequest) (drawn : ℕ) (held : Held) → IsSession k requests drawn → seen k requests drawn ≡ held
+    → known held.tables held.talk ≡ k
+known-is k requests drawn held keeps is =
+    ap (λ (h : Held). known h.tables h.talk) (sym is) ∙ ap (λ numbers. record k { requests = numbers }) (sym keeps.ids)
 
 -- and it owes nothing
-pub due-is : (k : Known) (requests : List OpenRequest) (held : Held) → seen k requests ≡ held → held.talk.due ≡ []
-due-is k requests held is = sym (ap (λ (h : Held). h.talk.due) is)
-
--- a session between two calls: it owes nothing, and drew no more seeds than were wanted
-pub record Rests (talk : Talk) : Type 0 where
-  pub due : talk.due ≡ []
-  pub drew : talk.drawn ≤ talk.passed
-
-pub rests-is : (k : Known) (requests : List OpenRequest) (held : Held) → seen k requests ≡ held → Rests held.talk
-rests-is k requests held is = subst (λ (h : Held). Rests h.talk) is (record { due = refl; drew = omega arith })
+pub due-is : (k : Known) (requests : List OpenRequest) (drawn : ℕ) (held : Held) → seen k requests drawn ≡ held → held.talk.due ≡ []
+due-is k requests drawn held is = sym (ap (λ (h : Held). h.talk.due) is)

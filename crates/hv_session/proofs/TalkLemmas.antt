@@ -16,7 +16,6 @@ use Rattle.hv_message.specs.Messages.{Known, cancels, ends, means, malformed, re
 use Rattle.hv_reply.specs.declared.reply.Reply.{Reply}
 use Rattle.hv_reply.specs.declared.reply.Reply.TheVariants as reply
 use Rattle.hv_session.specs.Held.{Serves, refusal_reply}
-use Rattle.hv_session.proofs.SessionLemmas.{Rests}
 use Rattle.hv_session.specs.Talk.{Talk, answers, ending, Pays, Replies, served, refused, after_meaning, after_reading, closed, known}
 
 -- a session that owes nothing, as it is
@@ -26,12 +25,12 @@ none_due talk e = ap (λ dues. record talk { due = dues }) e
 pub pays_one : (talk : Talk) (r : Reply) → talk.due ≡ [] → Pays (record talk { due = answers r ∷ [] }) (r ∷ []) talk
 pays_one talk r e = (answers r, [], refl, refl, (refl, none_due talk e))
 
-pub pays_end : (talk : Talk) (id : ℕ) → talk.due ≡ [] → Pays (after_meaning talk (ends id)) [] (record talk { ended = true })
-pays_end talk id e = (e, refl)
+pub pays_end : (words : ℕ → ℕ) (talk : Talk) (id : ℕ) → talk.due ≡ [] → Pays (after_meaning words talk (ends id)) [] (record talk { ended = true })
+pays_end words talk id e = (e, refl)
 
-pub pays_cancel : (talk : Talk) (id request : ℕ) → talk.due ≡ []
-    → Pays (after_meaning talk (cancels id request)) (reply.Cancelled request ∷ reply.Done id ∷ []) (record talk { requests = closed request talk.requests })
-pays_cancel talk id request e = (
+pub pays_cancel : (words : ℕ → ℕ) (talk : Talk) (id request : ℕ) → talk.due ≡ []
+    → Pays (after_meaning words talk (cancels id request)) (reply.Cancelled request ∷ reply.Done id ∷ []) (record talk { requests = closed request talk.requests })
+pays_cancel words talk id request e = (
   ending request,
   answers (reply.Done id) ∷ [],
   refl,
@@ -41,40 +40,40 @@ pays_cancel talk id request e = (
 
 -- ---- a text is heard
 
-pub replies_refused : (tables : Tables) (talk : Talk) (text : List ℕ) (id : Option ℕ) → talk.due ≡ [] → (id ≡ None) ⊎ (id ≡ id_of_text text)
-    → Replies tables talk text (reply.NoMem id ∷ []) talk
-replies_refused tables talk text id e whose = record {
+pub replies_refused : (tables : Tables) (words : ℕ → ℕ) (talk : Talk) (text : List ℕ) (id : Option ℕ) → talk.due ≡ [] → (id ≡ None) ⊎ (id ≡ id_of_text text)
+    → Replies tables words talk text (reply.NoMem id ∷ []) talk
+replies_refused tables words talk text id e whose = record {
   owing = record talk { due = answers (reply.NoMem id) ∷ [] };
   hears = record { nothing_due = e; how = refused id; is_hearing = whose; next_is = refl };
   pays = pays_one talk (reply.NoMem id) e;
 }
 
-pub replies_malformed : (tables : Tables) (talk : Talk) (text : List ℕ) (w : Why) (id : Option ℕ) → Rests talk → reading (known tables talk) text ≡ malformed w id
-    → Replies tables talk text (reply.Malformed id w ∷ []) talk
-replies_malformed tables talk text w id rests is = record {
+pub replies_malformed : (tables : Tables) (words : ℕ → ℕ) (talk : Talk) (text : List ℕ) (w : Why) (id : Option ℕ) → talk.due ≡ [] → reading (known tables talk) text ≡ malformed w id
+    → Replies tables words talk text (reply.Malformed id w ∷ []) talk
+replies_malformed tables words talk text w id quiet is = record {
   owing = record talk { due = answers (reply.Malformed id w) ∷ [] };
-  hears = record { nothing_due = rests.due; how = served talk.drawn; is_hearing = (omega arith, rests.drew); next_is = sym (ap (after_reading talk) is) };
-  pays = pays_one talk (reply.Malformed id w) rests.due;
+  hears = record { nothing_due = quiet; how = served; is_hearing = tt; next_is = sym (ap (after_reading words talk) is) };
+  pays = pays_one talk (reply.Malformed id w) quiet;
 }
 
-pub replies_served : (tables : Tables) (talk next : Talk) (text : List ℕ) (message : Message) (replies : List Reply) → Rests talk
+pub replies_served : (tables : Tables) (words : ℕ → ℕ) (talk next : Talk) (text : List ℕ) (message : Message) (replies : List Reply) → talk.due ≡ []
     → reading (known tables talk) text ≡ means (message_meant message) → id_of_text text ≡ Some (id_of message)
-    → Serves talk message replies next → Replies tables talk text replies next
-replies_served tables talk next text message replies rests is own (inl pays) = record {
-  owing = after_meaning talk (message_meant message);
-  hears = record { nothing_due = rests.due; how = served talk.drawn; is_hearing = (omega arith, rests.drew); next_is = sym (ap (after_reading talk) is) };
+    → Serves words talk message replies next → Replies tables words talk text replies next
+replies_served tables words talk next text message replies quiet is own (inl pays) = record {
+  owing = after_meaning words talk (message_meant message);
+  hears = record { nothing_due = quiet; how = served; is_hearing = tt; next_is = sym (ap (after_reading words talk) is) };
   pays = pays;
 }
-replies_served tables talk next text message replies rests is own (inr h) =
-    subst (λ rs. Replies tables talk text rs next) (sym h.0)
-    (subst (λ t. Replies tables talk text (reply.NoMem (Some (id_of message)) ∷ []) t) (sym h.1)
-    (replies_refused tables talk text (Some (id_of message)) rests.due (inr (sym own))))
+replies_served tables words talk next text message replies quiet is own (inr h) =
+    subst (λ rs. Replies tables words talk text rs next) (sym h.0)
+    (subst (λ t. Replies tables words talk text (reply.NoMem (Some (id_of message)) ∷ []) t) (sym h.1)
+    (replies_refused tables words talk text (Some (id_of message)) quiet (inr (sym own))))
 
 -- a text that gave no message
-pub replies_refusal : (tables : Tables) (talk : Talk) (text : List ℕ) (k : Known) (refusal : Refusal) → Rests talk → known tables talk ≡ k
-    → IsReading k (Err refusal) (id_of_text text) (reading k text) → Replies tables talk text (refusal_reply refusal ∷ []) talk
-replies_refusal tables talk text k (refusal.Malformed why id) rests same is = replies_malformed tables talk text why id rests (ap (λ x. reading x text) same ∙ is)
-replies_refusal tables talk text k (refusal.Memory id) rests same is = replies_refused tables talk text id rests.due is
+pub replies_refusal : (tables : Tables) (words : ℕ → ℕ) (talk : Talk) (text : List ℕ) (k : Known) (refusal : Refusal) → talk.due ≡ [] → known tables talk ≡ k
+    → IsReading k (Err refusal) (id_of_text text) (reading k text) → Replies tables words talk text (refusal_reply refusal ∷ []) talk
+replies_refusal tables words talk text k (refusal.Malformed why id) quiet same is = replies_malformed tables words talk text why id quiet (ap (λ x. reading x text) same ∙ is)
+replies_refusal tables words talk text k (refusal.Memory id) quiet same is = replies_refused tables words talk text id quiet is
 
 -- ---- what a text is
 

@@ -1,5 +1,5 @@
 -- What contracts see of a session, and what it says at once.
-use Rattle.std.specs.Prelude.{◌≡◌, ◌⊎◌, List, [], ◌∷◌, map, Some}
+use Rattle.std.specs.Prelude.{◌≡◌, ◌≤◌, ◌⊎◌, ℕ, List, [], ◌∷◌, length, map, Some}
 use Rattle.std.specs.List.{AllByRecursion}
 use Rattle.hv_value.specs.Catalog.{Tables}
 use Rattle.hv_lineage.specs.Flat.{Told}
@@ -23,9 +23,9 @@ pub record Held : Type 0 where
   pub tables : Tables
   pub talk : Talk
 
--- the talk of a session that owes nothing and has drawn no seed, by what it knows and its open requests
-abbrev pub talk_held : Known → List OpenRequest → Talk
-talk_held k requests = record { objects = k.objects; requests = requests; due = []; ended = k.ended; drawn = 0; passed = 0 }
+-- the talk of a session that owes nothing, by what it knows, its open requests and how many seeds it has drawn
+abbrev pub talk_held : Known → List OpenRequest → ℕ → Talk
+talk_held k requests drawn = record { objects = k.objects; requests = requests; due = []; ended = k.ended; drawn = drawn }
 
 -- the replies of an answer, in order
 abbrev pub replies_of : Answer → List Reply
@@ -37,15 +37,17 @@ replies_of (Two r later) = r ∷ later ∷ []
 abbrev pub IsFit : OpenRequest → Type 0
 IsFit request = FitsPlan request.plan (lineage_columns request.of)
 
--- what a session keeps: the ids that it knows are those of its requests, whose plans fit
-pub record IsSession (known : Known) (requests : List OpenRequest) : Type 0 where
+-- what a session keeps: the ids that it knows are those of its requests, whose plans fit, and each seed that it has drawn
+-- made an object
+pub record IsSession (known : Known) (requests : List OpenRequest) (drawn : ℕ) : Type 0 where
   pub ids : known.requests ≡ map (λ request. request.id) requests
   pub fit : AllByRecursion IsFit requests
+  pub made : drawn ≤ length known.objects
 
 -- a message is served, and what it makes due is said; or it is refused memory, and nothing comes of it
-abbrev pub Serves : Talk → Message → List Reply → Talk → Type 0
-Serves talk message replies next =
-    Pays (after_meaning talk (message_meant message)) replies next ⊎ ((replies ≡ NoMem (Some (id_of message)) ∷ []) × (next ≡ talk))
+abbrev pub Serves : (ℕ → ℕ) → Talk → Message → List Reply → Talk → Type 0
+Serves words talk message replies next =
+    Pays (after_meaning words talk (message_meant message)) replies next ⊎ ((replies ≡ NoMem (Some (id_of message)) ∷ []) × (next ≡ talk))
 
 -- what is said of a text that gave no message
 abbrev pub refusal_reply : Refusal → Reply

@@ -1,13 +1,14 @@
 -- Which talk of one session is right: what each text that it hears makes due, and what may be said.
-use Rattle.std.specs.Prelude.{◌≡◌, ◌⊎◌, ℕ, ◌==◌, ◌≤◌, List, [], ◌∷◌, ◌++◌, length, map, drop, find, position, Bool, true, false, Option, Some, None}
+use Rattle.std.specs.Prelude.{◌≡◌, ◌⊎◌, ⊤, ℕ, ◌+◌, ◌==◌, List, [], ◌∷◌, ◌++◌, length, map, drop, find, position, Bool, true, false, Option, Some, None}
 use Rattle.hv_value.specs.Catalog.{Tables}
 use Rattle.hv_value.specs.Rows.{Row}
 use Rattle.hv_member.specs.Sets.{numbers}
 use Rattle.hv_lineage.specs.Flat.{Told, AreFlat}
+use Rattle.hv_lineage.specs.Combining.{sampled}
 use Rattle.hv_lineage.specs.Lineages.{TermOver, lineage_parts}
 use Rattle.hv_view.specs.Plans.{OfPlan}
 use Rattle.hv_view.specs.declared.shown.Shown.{Shown}
-use Rattle.hv_message.specs.Messages.{Known, Meaning, makes, tells, views, cancels, ends, Reading, means, malformed, reading, id_of_text, without}
+use Rattle.hv_message.specs.Messages.{Known, Meaning, makes, samples, tells, views, cancels, ends, Reading, means, malformed, reading, id_of_text, without}
 use Rattle.hv_reply.specs.declared.reply.Reply.{Reply}
 use Rattle.hv_reply.specs.declared.reply.Reply.TheVariants as reply
 use Rattle.hv_session.specs.declared.request.OpenRequest.{OpenRequest}
@@ -20,19 +21,17 @@ pub data Due : Type 0 where
   ending : ℕ → Due
 
 -- a session: its objects by number, its open requests in the order in which they were opened, what is owed, whether it
--- heard `end`, and of the texts that it heard which want a seed and give none, how many it answered with a drawn one and
--- how many they are
+-- heard `end`, and how many seeds it has drawn
 pub record Talk : Type 0 where
   pub objects : List TermOver
   pub requests : List OpenRequest
   pub due : List Due
   pub ended : Bool
   pub drawn : ℕ
-  pub passed : ℕ
 
 -- a session that has heard nothing
 abbrev pub new_talk : Talk
-new_talk = record { objects = []; requests = []; due = []; ended = false; drawn = 0; passed = 0 }
+new_talk = record { objects = []; requests = []; due = []; ended = false; drawn = 0 }
 
 -- ---- what is heard
 
@@ -40,42 +39,48 @@ new_talk = record { objects = []; requests = []; due = []; ended = false; drawn 
 abbrev pub known : Tables → Talk → Known
 known tables talk = record { tables = tables; objects = talk.objects; requests = map (λ request. request.id) talk.requests; ended = talk.ended }
 
--- how a text was heard: served, with the place among the session's words of the one that is drawn where one is, or
--- refused memory, with the id that the refusal names
+-- how a text was heard: served, or refused memory, with the id that the refusal names
 pub data Hearing : Type 0 where
-  served : ℕ → Hearing
+  served : Hearing
   refused : Option ℕ → Hearing
 
--- a word that is drawn comes after those that were shown, and none is passed over but for want of memory; a refusal
--- names the text's own id or none
-abbrev pub IsHearing : Talk → List ℕ → Hearing → Type 0
-IsHearing talk text (served place) = (talk.drawn ≤ place) × (place ≤ talk.passed)
-IsHearing talk text (refused id) = (id ≡ None) ⊎ (id ≡ id_of_text text)
+-- a refusal names the text's own id or none
+abbrev pub IsHearing : List ℕ → Hearing → Type 0
+IsHearing text served = ⊤
+IsHearing text (refused id) = (id ≡ None) ⊎ (id ≡ id_of_text text)
 
--- the session after a message
-abbrev pub after_meaning : Talk → Meaning → Talk
-after_meaning talk (makes id lineage) = record talk { due = making id lineage None ∷ [] }
-after_meaning talk (tells id lineage) = record talk { due = answers (reply.Info id lineage) ∷ [] }
-after_meaning talk (views id lineage plan) = record talk { requests = talk.requests ++ record { id = id; of = lineage; plan = plan } ∷ [] }
-after_meaning talk (cancels id request) = record talk { due = ending request ∷ answers (reply.Done id) ∷ [] }
-after_meaning talk (ends id) = record talk { ended = true }
+-- the session after a message that asks for a sample: where it gives no seed the next of the session's words is drawn. So
+-- a word is used up only by a sample that is made
+abbrev pub after_sample : (ℕ → ℕ) → Talk → ℕ → TermOver → ℕ → Option ℕ → Talk
+after_sample words talk id of threshold (Some seed) = record talk { due = making id (sampled of seed threshold) (Some seed) ∷ [] }
+after_sample words talk id of threshold None =
+    record talk { due = making id (sampled of (words talk.drawn) threshold) (Some (words talk.drawn)) ∷ []; drawn = talk.drawn + 1 }
+
+-- the session after a message, its words from which seeds are drawn given by place
+abbrev pub after_meaning : (ℕ → ℕ) → Talk → Meaning → Talk
+after_meaning words talk (makes id lineage) = record talk { due = making id lineage None ∷ [] }
+after_meaning words talk (samples id of threshold seed) = after_sample words talk id of threshold seed
+after_meaning words talk (tells id lineage) = record talk { due = answers (reply.Info id lineage) ∷ [] }
+after_meaning words talk (views id lineage plan) = record talk { requests = talk.requests ++ record { id = id; of = lineage; plan = plan } ∷ [] }
+after_meaning words talk (cancels id request) = record talk { due = ending request ∷ answers (reply.Done id) ∷ [] }
+after_meaning words talk (ends id) = record talk { ended = true }
 
 -- the session after a text that is a message, or after one that is none
-abbrev pub after_reading : Talk → Reading → Talk
-after_reading talk (means meaning) = after_meaning talk meaning
-after_reading talk (malformed why id) = record talk { due = answers (reply.Malformed id why) ∷ [] }
+abbrev pub after_reading : (ℕ → ℕ) → Talk → Reading → Talk
+after_reading words talk (means meaning) = after_meaning words talk meaning
+after_reading words talk (malformed why id) = record talk { due = answers (reply.Malformed id why) ∷ [] }
 
 -- the session after a text
-abbrev pub heard : Tables → Talk → List ℕ → Hearing → Talk
-heard tables talk text (served place) = after_reading talk (reading (known tables talk) text)
-heard tables talk text (refused id) = record talk { due = answers (reply.NoMem id) ∷ [] }
+abbrev pub heard : Tables → (ℕ → ℕ) → Talk → List ℕ → Hearing → Talk
+heard tables words talk text served = after_reading words talk (reading (known tables talk) text)
+heard tables words talk text (refused id) = record talk { due = answers (reply.NoMem id) ∷ [] }
 
 -- a session hears a text: nothing is owed before
-pub record Hears (tables : Tables) (talk : Talk) (text : List ℕ) (next : Talk) : Type 0 where
+pub record Hears (tables : Tables) (words : ℕ → ℕ) (talk : Talk) (text : List ℕ) (next : Talk) : Type 0 where
   pub nothing_due : talk.due ≡ []
   pub how : Hearing
-  pub is_hearing : IsHearing talk text how
-  pub next_is : next ≡ heard tables talk text how
+  pub is_hearing : IsHearing text how
+  pub next_is : next ≡ heard tables words talk text how
 
 -- ---- what is said
 
@@ -109,9 +114,9 @@ Pays talk [] next = (talk.due ≡ []) × (next ≡ talk)
 Pays talk (r ∷ replies) next = (due : Due) × (later : List Due) × (talk.due ≡ due ∷ later) × (r ≡ due_reply talk due) × Pays (after_due talk due) replies next
 
 -- a session hears a text and says what that makes due
-pub record Replies (tables : Tables) (talk : Talk) (text : List ℕ) (replies : List Reply) (next : Talk) : Type 0 where
+pub record Replies (tables : Tables) (words : ℕ → ℕ) (talk : Talk) (text : List ℕ) (replies : List Reply) (next : Talk) : Type 0 where
   pub owing : Talk
-  pub hears : Hears tables talk text owing
+  pub hears : Hears tables words talk text owing
   pub pays : Pays owing replies next
 
 -- ---- open requests
@@ -159,7 +164,7 @@ Says m [] talk r next = (id : ℕ) × (request : OpenRequest) × (request_with i
 Says m (due ∷ later) talk r next = (r ≡ due_reply talk due) × (next ≡ after_due talk due)
 
 abbrev pub Speaks : Manner → Talk → Spoken → Talk → Type 0
-Speaks m talk (incoming text) next = Hears m.tables talk text next
+Speaks m talk (incoming text) next = Hears m.tables m.words talk text next
 Speaks m talk (outgoing r) next = Says m talk.due talk r next
 
 -- the talk goes on through all that is said, in order

@@ -4,10 +4,12 @@
 mod answer;
 mod last_words;
 mod request;
+mod seeds;
 mod session;
 #[cfg(test)]
 mod tests;
 
 pub use answer::Answer;
 pub use request::OpenRequest;
+pub use seeds::Seeds;
 pub use session::Session;

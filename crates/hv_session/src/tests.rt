@@ -128,7 +128,7 @@ fn open_requests_are_answered_in_their_order(rt: HostRuntime) -> Result<(), Fail
     ]
     .as_slice()
     {
-        session.hear(alloc, text);
+        session.hear(alloc, Seeds { seed: 0, stream: 0 }, text);
     }
     assert!(rt; answers_range(alloc, &mut session, 9, (2, 2, 3, 5)));
     assert!(rt; answers_distinct(alloc, &mut session, 4, [2, 3].as_slice()));

@@ -16,8 +16,8 @@ returns-clause-some c =
     record {
       request = first;
       later = later;
-      nothing_due = due-is c.self.inside.state requests held c.self.view_is;
+      nothing_due = due-is c.self.inside.state requests c.self.inside.drawn held c.self.view_is;
       first = sym (ap (λ (h : Held). h.talk.requests) c.self.view_is) ∙ left;
       answers = c.last_word-reply.ensures;
-      next_is = ap (λ k. talk_held k later) c.drop_id.ensures ∙ ap (λ (h : Held). record h.talk { requests = later }) c.self.view_is;
+      next_is = ap (λ k. talk_held k later c.self.inside.drawn) c.drop_id.ensures ∙ ap (λ (h : Held). record h.talk { requests = later }) c.self.view_is;
     }
