@@ -1,20 +1,21 @@
 -- What a text may mean: a view's id is free, and what is cancelled is open.
 use Rattle.std.proofs.Common.{◌≡◌, refl, ℕ, pos, negsuc, List, Bool, true, false, Option, Some, None, Ok, Err}
-use Rattle.std.specs.Prelude.{if◌then◌else◌, Result, codes}
+use Rattle.std.specs.Prelude.{if◌then◌else◌, option_map, unsigned_abs, Result, codes}
 use Rattle.serde_json.specs.Data.{Data}
 use Rattle.hv_lineage.specs.Lineages.{TermOver}
 use Rattle.hv_message.specs.declared.asked.Asked.{Asked}
-use Rattle.hv_message.specs.declared.asked.Asked.TheVariants.{Load, Over, Info, View, Cancel, End}
+use Rattle.hv_message.specs.declared.asked.Asked.TheVariants.{Load, Over, Combine, Sample, Info, View, Cancel, End}
 use Rattle.hv_asked.specs.declared.why.Why.{Why}
 use Rattle.hv_asked.specs.declared.why.Why.TheVariants as why
 use Rattle.hv_asked.specs.Fields.{text_at}
 use Rattle.hv_asked.specs.Flaws.{and_then}
-use Rattle.hv_message.specs.Messages.{Known, Meaning, makes, tells, views, cancels, ends, Reading, means, malformed, asked, made_in, opened_in, object_at, of_known, is_open, meaning, id_in, operation, checked, reading_of, with_id, object_of, reading_of_object, reading_of_value, reading}
+use Rattle.hv_message.specs.Messages.{Known, Meaning, makes, samples, tells, views, cancels, ends, Reading, means, malformed, asked, made_in, sampled_in, opened_in, object_at, of_known, is_open, meaning, id_in, operation, checked, reading_of, with_id, object_of, reading_of_object, reading_of_value, reading}
 use Rattle.hv_message.specs.Tables.{loaded}
 
 -- what a session may do at once
 abbrev pub IsOpenedOrEnded : Known → Meaning → Type 0
 IsOpenedOrEnded k (makes id lineage) = Unit {0}
+IsOpenedOrEnded k (samples id of threshold seed) = Unit {0}
 IsOpenedOrEnded k (tells id lineage) = Unit {0}
 IsOpenedOrEnded k (views id lineage plan) = is_open id k.requests ≡ false
 IsOpenedOrEnded k (cancels id request) = is_open request k.requests ≡ true
@@ -56,6 +57,11 @@ cancelled_sound k id request false e = tt
 meaning_sound : (k : Known) (id : ℕ) (a : Asked) → is_open id k.requests ≡ false → IsSoundResult k (meaning k id a)
 meaning_sound k id (Load table) free = then_each k (made_in k id) (loaded k.tables table) (made_sound k id)
 meaning_sound k id (Over of term) free = of_each k (object_at k.objects of) _ (λ lineage. then_each k (made_in k id) _ (made_sound k id))
+meaning_sound k id (Combine how left right) free =
+    of_each k (object_at k.objects left) _ (λ l. of_each k (object_at k.objects right) _ (λ r. then_each k (made_in k id) _ (made_sound k id)))
+meaning_sound k id (Sample of threshold seed) free =
+    of_each k (object_at k.objects of) _ (λ lineage.
+    then_each k (sampled_in k id (unsigned_abs threshold) (option_map unsigned_abs seed)) _ (λ deep. either_result k _ (Ok (samples id deep (unsigned_abs threshold) (option_map unsigned_abs seed))) (Err why.Full) tt tt))
 meaning_sound k id (Info of) free = of_each k (object_at k.objects of) _ (λ lineage. tt)
 meaning_sound k id (View of v) free =
     of_each k (object_at k.objects of) _ (λ lineage. then_each k (opened_in k id lineage) _ (λ plan. either_result k _ (Ok (views id lineage plan)) (Err why.Full) free tt))

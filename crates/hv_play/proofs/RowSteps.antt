@@ -1,24 +1,30 @@
 -- A run of the sessions, put together from its steps where memory suffices, each before the rest of the run.
 use Rattle.std.proofs.Common.{◌≡◌, refl, sym, ap, subst, ℕ, ◌+◌, List, [], ◌∷◌, ◌++◌, map, true, false, Some, None, append-nil, inl}
 use Rattle.std.specs.Prelude.{if◌then◌else◌, get_or, slice_set, replicate, flat_map}
+use Rattle.hv_lineage.specs.Flat.{Told}
 use Rattle.hv_lineage.specs.Lineages.{TermOver}
 use Rattle.hv_message.specs.Messages.{Reading, reading}
+use Rattle.hv_pick.specs.Word.{word_of}
 use Rattle.hv_reply.specs.declared.reply.Reply.{Reply}
 use Rattle.hv_session.specs.declared.request.OpenRequest.{OpenRequest}
-use Rattle.hv_session.specs.Talk.{Talk, Due, new_talk, Manner, known, served, after_reading, due_reply, after_due, request_with, IsFinal, IsHearing, closed}
+use Rattle.hv_session.specs.Talk.{Talk, Due, new_talk, Manner, known, served, after_reading, due_reply, after_due, request_with, IsFinal, closed}
 use Rattle.hv_play.specs.declared.entry.BadLine.{BadLine}
 use Rattle.hv_play.specs.Run.{Duty, script, drain, refusing, hearing, saying, ticking, treating, Event, comes, written, Runs, stays, does, Treats, out, SaysOwed, bad_entry, entries_of, duties_of, treatings, round, is_anything_open, Setting, whole, early, IsTrace}
 use Rattle.hv_play.specs.Script.{Line, line_of, script_lines}
 use Rattle.hv_play.specs.Steps.{at}
 use Rattle.hv_play.specs.Texts.{entries_text}
 
--- there is no named table, nothing is told of any, and all words are 0
-abbrev pub no_tables : Manner
-no_tables = record { tables = []; told = λ table part. None; words = λ place. 0 }
+-- nothing is told of any named table
+abbrev pub nothing_told : Told
+nothing_told table part = None
+
+-- there is no named table, and a session's words are those of its number
+abbrev pub by_number : ℕ → Manner
+by_number s = record { tables = []; told = nothing_told; words = word_of 0 s }
 
 -- the sessions of a script
 abbrev pub sixteen_sessions : Setting
-sixteen_sessions = record { sessions = 16; manner = λ s. no_tables }
+sixteen_sessions = record { sessions = 16; manner = by_number }
 
 -- the sessions go from these talks through these duties to the last talks, and nothing is left to be done
 abbrev pub Goes : List Talk → List Duty → List Event → List Talk → Type 0
@@ -26,7 +32,7 @@ Goes talks todo events last = Runs sixteen_sessions (at talks) todo events (at l
 
 -- a session by its parts
 abbrev pub session : List TermOver → List OpenRequest → List Due → Talk
-session objects requests due = record { objects = objects; requests = requests; due = due; ended = false; drawn = 0; passed = 0 }
+session objects requests due = record { objects = objects; requests = requests; due = due; ended = false; drawn = 0 }
 
 -- the talk of a session
 abbrev pub of : List Talk → ℕ → Talk
@@ -58,14 +64,14 @@ a_bad_line {talks} {last} {events} {todo} k why run =
 
 -- a text is heard, and memory suffices
 pub a_text : {talks last : List Talk} {events : List Event} {todo : List Duty} (k s : ℕ) (text : List ℕ) (read : Reading)
-    → (of talks s).due ≡ [] → IsHearing (of talks s) text (served 0) → reading (known [] (of talks s)) text ≡ read
-    → Goes (slice_set talks s (after_reading (of talks s) read)) (saying k s ∷ todo) events last
+    → (of talks s).due ≡ [] → reading (known [] (of talks s)) text ≡ read
+    → Goes (slice_set talks s (after_reading (word_of 0 s) (of talks s) read)) (saying k s ∷ todo) events last
     → Goes talks (hearing k s text ∷ todo) (comes s text ∷ events) last
-a_text {talks} {last} {events} {todo} k s text read owes fresh e run =
-    let next = after_reading (of talks s) read in
+a_text {talks} {last} {events} {todo} k s text read owes e run =
+    let next = after_reading (word_of 0 s) (of talks s) read in
     does (at talks) (at (slice_set talks s next)) (at last) (hearing k s text) (saying k s ∷ []) todo [] (Some (comes s text)) events (
       next,
-      record { nothing_due = owes; how = served 0; is_hearing = fresh; next_is = ap (after_reading (of talks s)) (sym e) },
+      record { nothing_due = owes; how = served; is_hearing = tt; next_is = ap (after_reading (word_of 0 s) (of talks s)) (sym e) },
       record { shows = refl; leaves = refl; brings = refl },
     ) run
 
@@ -77,7 +83,7 @@ what_is_owed {talks} {last} {events} {todo} k s due later owes run =
     let mid = at (slice_set talks s (after_due (of talks s) due)) in
     let event = Some (written (out k s (due_reply (of talks s) due))) in
     does (at talks) mid (at last) (saying k s) (saying k s ∷ []) todo [] event events
-    (subst (λ dues. SaysOwed no_tables (at talks) k s dues event mid (saying k s ∷ [])) (sym owes) (
+    (subst (λ dues. SaysOwed (by_number s) (at talks) k s dues event mid (saying k s ∷ [])) (sym owes) (
       due_reply (of talks s) due,
       after_due (of talks s) due,
       (refl, refl),
@@ -89,7 +95,7 @@ pub nothing_owed : {talks last : List Talk} {events : List Event} {todo : List D
     → Goes talks todo events last → Goes talks (saying k s ∷ todo) events last
 nothing_owed {talks} {last} {events} {todo} k s owes run =
     does (at talks) (at talks) (at last) (saying k s) [] todo [] None events
-    (subst (λ dues. SaysOwed no_tables (at talks) k s dues None (at talks) []) (sym owes) (record { shows = refl; leaves = refl; brings = refl })) run
+    (subst (λ dues. SaysOwed (by_number s) (at talks) k s dues None (at talks) []) (sym owes) (record { shows = refl; leaves = refl; brings = refl })) run
 
 -- while a request is open, each session ticks, and the drain is due again
 pub a_round : {talks last : List Talk} {events : List Event} (k : ℕ) → is_anything_open (at talks) ≡ true
@@ -126,14 +132,14 @@ no_round {talks} k e =
 
 -- a request gets its last word, and memory suffices
 pub an_answer : {talks last : List Talk} {events : List Event} {todo : List Duty} (k s id : ℕ) (asked : OpenRequest) (reply : Reply) → (of talks s).due ≡ []
-    → request_with id (of talks s) ≡ Some asked → IsFinal no_tables.told asked reply
+    → request_with id (of talks s) ≡ Some asked → IsFinal nothing_told asked reply
     → Goes (slice_set talks s (record (of talks s) { requests = closed asked.id (of talks s).requests })) todo events last
     → Goes talks (treating k s id ∷ todo) (written (out k s reply) ∷ events) last
 an_answer {talks} {last} {events} {todo} k s id asked reply owes found is run =
     let next = record (of talks s) { requests = closed asked.id (of talks s).requests } in
     let event = Some (written (out k s reply)) in
     does (at talks) (at (slice_set talks s next)) (at last) (treating k s id) [] todo [] event events
-    (subst (λ found. Treats no_tables.told (at talks) k s found event (at (slice_set talks s next)) []) (sym found) (
+    (subst (λ found. Treats nothing_told (at talks) k s found event (at (slice_set talks s next)) []) (sym found) (
       reply,
       next,
       record { nothing_due = owes; answered = inl is; next_is = refl },

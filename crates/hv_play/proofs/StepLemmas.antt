@@ -90,15 +90,19 @@ pays_shows g k s state next (reply ∷ replies) within (due, later, first, is, r
     }
 
 -- a session hears a text and says what that makes due
-pub shows_replies : (g : Setting) (k s : ℕ) (state : State) (next : Talk) (text : List ℕ) (replies : List Reply) → (g.manner s).tables ≡ [] → s < length state.talks
-    → Replies [] (talk_of state s) text replies next → Shows g (hearing k s text ∷ []) state (map (out k s) replies) (with_talk state s next)
-shows_replies g k s state next text replies none within r =
+pub shows_replies : (g : Setting) (k s : ℕ) (state : State) (next : Talk) (text : List ℕ) (replies : List Reply) → (g.manner s).tables ≡ [] → (words : ℕ → ℕ) → (g.manner s).words ≡ words
+    → s < length state.talks → Replies [] words (talk_of state s) text replies next → Shows g (hearing k s text ∷ []) state (map (out k s) replies) (with_talk state s next)
+shows_replies g k s state next text replies none words drawn within r =
     let mid = with_talk state s r.owing in
     let more = pays_shows g k s mid next replies (still state s r.owing within) (subst (λ t. Pays t replies next) (sym (there state s r.owing within)) r.pays) in
     record {
       events = comes s text ∷ more.events;
-      runs = does state mid (with_talk state s next) (hearing k s text) (saying k s ∷ []) [] [] (Some (comes s text)) more.events
-          (r.owing, subst (λ tables. Hears tables (talk_of state s) text r.owing) (sym none) r.hears, record { shows = refl; leaves = refl; brings = refl })
+      runs = does state mid (with_talk state s next) (hearing k s text) (saying k s ∷ []) [] [] (Some (comes s text)) more.events (
+        r.owing,
+        subst (λ tables. Hears tables (g.manner s).words (talk_of state s) text r.owing) (sym none)
+            (subst (λ from. Hears [] from (talk_of state s) text r.owing) (sym drawn) r.hears),
+        record { shows = refl; leaves = refl; brings = refl },
+      )
           (subst (λ end. Runs g mid (saying k s ∷ []) more.events end []) (twice state s r.owing next) more.runs);
       shown = more.shown;
     }
@@ -109,12 +113,12 @@ pub value_bad : (g : Setting) (k : ℕ) (value : Data) (state : State) → line_
 value_bad g k value state e =
     subst (λ l. Shows g (duties_of k l) state (bad_entry k (why_bad value) ∷ []) state) (sym e) (shows_bad g k (why_bad value) state)
 
-pub value_heard : (g : Setting) (k s : ℕ) (value : Data) (text : List ℕ) (state : State) (d next : Talk) (replies : List Reply) → (g.manner s).tables ≡ [] → s < length state.talks
-    → session_in value ≡ Some s → text_in_line value ≡ Some text → Replies [] (get_or state.talks s d) text replies next
+pub value_heard : (g : Setting) (k s : ℕ) (value : Data) (text : List ℕ) (state : State) (d next : Talk) (replies : List Reply) → (g.manner s).tables ≡ [] → (words : ℕ → ℕ) → (g.manner s).words ≡ words
+    → s < length state.talks → session_in value ≡ Some s → text_in_line value ≡ Some text → Replies [] words (get_or state.talks s d) text replies next
     → Shows g (duties_of k (line_of_value (Some value))) state (map (out k s) replies) (with_talk state s next)
-value_heard g k s value text state d next replies none within is says said =
+value_heard g k s value text state d next replies none words drawn within is says said =
     subst (λ l. Shows g (duties_of k l) state (map (out k s) replies) (with_talk state s next)) (sym (line_of_value-heard value s text is says))
-    (shows_replies g k s state next text replies none within (subst (λ talk. Replies [] talk text replies next) (get_or_default state.talks s d new_talk within) said))
+    (shows_replies g k s state next text replies none words drawn within (subst (λ talk. Replies [] words talk text replies next) (get_or_default state.talks s d new_talk within) said))
 
 pub line_empty : (g : Setting) (k : ℕ) (line : List ℕ) (state : State) → (length line == 0) ≡ true → Shows g (duties_of k (line_of line)) state [] state
 line_empty g k line state e = subst (λ l. Shows g (duties_of k l) state [] state) (sym (line_of-empty line e)) (shows_nothing g state)

@@ -12,9 +12,9 @@ pays_all talk [] next (none, is) = ap (λ t. t.due) is ∙ none
 pays_all talk (r ∷ replies) next (due, later, first, is, rest) = pays_all (after_due talk due) replies next rest
 
 -- a session of a script that heard a text is one still
-pub scripted-heard : (before after : Held) (text : List ℕ) (replies : List Reply) → IsScripted before → after.tables ≡ before.tables
-    → Replies before.tables before.talk text replies after.talk → IsScripted after
-scripted-heard before after text replies is same said =
+pub scripted-heard : (words : ℕ → ℕ) (before after : Held) (text : List ℕ) (replies : List Reply) → IsScripted before → after.tables ≡ before.tables
+    → Replies before.tables words before.talk text replies after.talk → IsScripted after
+scripted-heard words before after text replies is same said =
     record { no_tables = same ∙ is.no_tables; nothing_due = pays_all said.owing replies after.talk said.pays }
 
 -- and one that answered
@@ -23,8 +23,8 @@ scripted-answered before after reply is same a =
     record { no_tables = same ∙ is.no_tables; nothing_due = ap (λ talk. talk.due) a.next_is ∙ a.nothing_due }
 
 -- memory is refused for a text
-pub replies_refused : (talk : Talk) (text : List ℕ) → talk.due ≡ [] → Replies [] talk text (NoMem None ∷ []) talk
-replies_refused talk text none =
+pub replies_refused : (words : ℕ → ℕ) (talk : Talk) (text : List ℕ) → talk.due ≡ [] → Replies [] words talk text (NoMem None ∷ []) talk
+replies_refused words talk text none =
     record {
       owing = record talk { due = answers (NoMem None) ∷ [] };
       hears = record { nothing_due = none; how = refused None; is_hearing = inl refl; next_is = refl };

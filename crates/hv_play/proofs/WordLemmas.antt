@@ -5,13 +5,13 @@ use Rattle.std.proofs.lemmas.List.Elements.{filter-append}
 use Rattle.std.proofs.lemmas.List.{length-append}
 use Rattle.std.specs.List.{filter, list_any, position_or_len}
 use Rattle.std.specs.Prelude.{◌==◌, ◌||◌, if◌then◌else◌, cond, not, nat_lt, find}
-use Rattle.hv_message.specs.Messages.{makes, tells, views, cancels, ends, Reading, means, malformed, reading, is_open, without}
+use Rattle.hv_message.specs.Messages.{makes, samples, tells, views, cancels, ends, Reading, means, malformed, reading, is_open, without}
 use Rattle.hv_reply.specs.declared.reply.Reply.{Reply}
 use Rattle.hv_session.specs.declared.request.OpenRequest.{OpenRequest}
 use Rattle.hv_session.specs.Talk.{Talk, new_talk, known, Hearing, served, refused, heard, after_reading, Due, answers, making, ending, after_due, closed, Hears, Says, Answers, Manner, Spoken, incoming, outgoing, Talks}
 use Rattle.hv_value.specs.Catalog.{Tables}
 use Rattle.hv_lineage.specs.Flat.{Told}
-use Rattle.hv_play.specs.Laws.{HasEachLastWord, HasOneLastWord, ended_by, last_words, open_with, opened_by, openings, times, word_of}
+use Rattle.hv_play.specs.Laws.{HasEachLastWord, HasOneLastWord, ended_by, last_words, open_with, opened_by, openings, times, last_word_of}
 use Rattle.hv_session.proofs.FirstLemmas.{closed-first}
 use Rattle.hv_play.proofs.EndLemmas.{nothing_open}
 use Rattle.hv_play.proofs.ReadingLemmas.{IsSound, reading_sound}
@@ -221,32 +221,34 @@ one_less talk next id there same owed kept =
 
 -- ---- a text is heard
 
-after_goes : (tables : Tables) (talk : Talk) (read : Reading) (place : ℕ) → IsSound (known tables talk) read → talk.due ≡ [] → IsKept talk
-    → Goes (opened_by read (served place)) None talk (after_reading talk read)
-after_goes tables talk (malformed why id) place sound none kept = goes_on talk _ refl tt kept
-after_goes tables talk (means (makes id lineage)) place sound none kept = goes_on talk _ refl tt kept
-after_goes tables talk (means (tells id lineage)) place sound none kept = goes_on talk _ refl tt kept
-after_goes tables talk (means (views id lineage plan)) place sound none kept =
+after_goes : (tables : Tables) (words : ℕ → ℕ) (talk : Talk) (read : Reading) → IsSound (known tables talk) read → talk.due ≡ [] → IsKept talk
+    → Goes (opened_by read served) None talk (after_reading words talk read)
+after_goes tables words talk (malformed why id) sound none kept = goes_on talk _ refl tt kept
+after_goes tables words talk (means (makes id lineage)) sound none kept = goes_on talk _ refl tt kept
+after_goes tables words talk (means (samples id of threshold (Some seed))) sound none kept = goes_on talk _ refl tt kept
+after_goes tables words talk (means (samples id of threshold None)) sound none kept = goes_on talk _ refl tt kept
+after_goes tables words talk (means (tells id lineage)) sound none kept = goes_on talk _ refl tt kept
+after_goes tables words talk (means (views id lineage plan)) sound none kept =
     one_more talk (record { id = id; of = lineage; plan = plan }) (sym (any_of_ids id talk.requests) ∙ sound) none kept
-after_goes tables talk (means (cancels id request)) place sound none kept = goes_on talk _ refl (sym (any_of_ids request talk.requests) ∙ sound, tt) kept
-after_goes tables talk (means (ends id)) place sound none kept = goes_on talk _ refl (subst (λ dues. IsOwed dues talk.requests) (sym none) tt) kept
+after_goes tables words talk (means (cancels id request)) sound none kept = goes_on talk _ refl (sym (any_of_ids request talk.requests) ∙ sound, tt) kept
+after_goes tables words talk (means (ends id)) sound none kept = goes_on talk _ refl (subst (λ dues. IsOwed dues talk.requests) (sym none) tt) kept
 
-heard_goes : (tables : Tables) (talk : Talk) (text : List ℕ) (how : Hearing) → talk.due ≡ [] → IsKept talk
-    → Goes (opened_by (reading (known tables talk) text) how) None talk (heard tables talk text how)
-heard_goes tables talk text (served place) none kept =
-    after_goes tables talk (reading (known tables talk) text) place (reading_sound (known tables talk) text) none kept
-heard_goes tables talk text (refused id) none kept = goes_on talk _ refl tt kept
+heard_goes : (tables : Tables) (words : ℕ → ℕ) (talk : Talk) (text : List ℕ) (how : Hearing) → talk.due ≡ [] → IsKept talk
+    → Goes (opened_by (reading (known tables talk) text) how) None talk (heard tables words talk text how)
+heard_goes tables words talk text served none kept =
+    after_goes tables words talk (reading (known tables talk) text) (reading_sound (known tables talk) text) none kept
+heard_goes tables words talk text (refused id) none kept = goes_on talk _ refl tt kept
 
-hears_goes : (tables : Tables) (talk next : Talk) (text : List ℕ) (h : Hears tables talk text next) → IsKept talk
+hears_goes : (tables : Tables) (words : ℕ → ℕ) (talk next : Talk) (text : List ℕ) (h : Hears tables words talk text next) → IsKept talk
     → Goes (opened_by (reading (known tables talk) text) h.how) None talk next
-hears_goes tables talk next text h kept =
-    subst (Goes (opened_by (reading (known tables talk) text) h.how) None talk) (sym h.next_is) (heard_goes tables talk text h.how h.nothing_due kept)
+hears_goes tables words talk next text h kept =
+    subst (Goes (opened_by (reading (known tables talk) text) h.how) None talk) (sym h.next_is) (heard_goes tables words talk text h.how h.nothing_due kept)
 
 -- ---- a reply is said
 
-answered_by : (told : Told) (request : OpenRequest) (r : Reply) → Answers told request r → word_of r ≡ Some request.id
-answered_by told request r (inl final) = ap word_of final.is
-answered_by told request r (inr short) = ap word_of short
+answered_by : (told : Told) (request : OpenRequest) (r : Reply) → Answers told request r → last_word_of r ≡ Some request.id
+answered_by told request r (inl final) = ap last_word_of final.is
+answered_by told request r (inr short) = ap last_word_of short
 
 due_goes : (talk : Talk) (due : Due) (later : List Due) (r : Reply) → talk.due ≡ due ∷ later → IsOwed (due ∷ later) talk.requests → IsKept talk
     → Goes None (ended_by (due ∷ later) r) talk (after_due talk due)
@@ -277,7 +279,7 @@ balances : (m : Manner) (i : ℕ) (talk : Talk) (words : List Spoken) (last : Ta
 balances m i talk [] last same kept =
     record { kept = subst IsKept (sym same) kept; count = ap (λ (t : Talk). 0 + open_with i t) (sym same) }
 balances m i talk (incoming text ∷ words) last (next, hear, later) kept =
-    let one = hears_goes m.tables talk next text hear kept in
+    let one = hears_goes m.tables m.words talk next text hear kept in
     let more = balances m i next words last later one.kept in
     let first = one.count i in
     let rest = more.count in

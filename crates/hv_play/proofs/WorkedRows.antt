@@ -52,7 +52,7 @@ use Rattle.hv_play.specs.declared.entry.Entry.{Entry}
 use Rattle.hv_play.specs.Run.{script, Event, comes, written, out, bad_entry, whole, early, IsTrace}
 use Rattle.hv_play.specs.Script.{line_of, empty, hears, bad, script_lines}
 use Rattle.hv_play.specs.Texts.{entry_text, entries_text}
-use Rattle.hv_play.proofs.RowSteps.{a_line, no_line, a_bad_line, a_text, what_is_owed, nothing_owed, a_round, a_tick, idle_ticks, no_round, an_answer, row, begun, Goes, no_tables, session, sixteen_sessions, new_talks}
+use Rattle.hv_play.proofs.RowSteps.{a_line, no_line, a_bad_line, a_text, what_is_owed, nothing_owed, a_round, a_tick, idle_ticks, no_round, an_answer, row, begun, Goes, nothing_told, session, sixteen_sessions, new_talks}
 
 -- ---- what lines ask for
 
@@ -109,7 +109,7 @@ rows_by m rows = filter_map (λ row. option_map (λ cells. record row { cells = 
 
 abbrev flat_by : Made → Base → List ℕ → Option (List Row)
 flat_by m b [] = Some []
-flat_by m b (part ∷ parts) = append_told (option_map (rows_by m) (rows_of_part no_tables.told b part)) (flat_by m b parts)
+flat_by m b (part ∷ parts) = append_told (option_map (rows_by m) (rows_of_part nothing_told b part)) (flat_by m b parts)
 
 -- ---- what messages mean
 
@@ -156,7 +156,7 @@ rows =
     ∷ record { part = 1; number = 0; cells = cell.Int (pos 9) ∷ [] }
     ∷ []
 
-table_rows : whole_rows no_tables.told table ≡ Some rows
+table_rows : whole_rows nothing_told table ≡ Some rows
 unfolding base_rows csv_on_literals field_at int_of_text
 table_rows = ap (λ m. flat_by m table.base (0 ∷ 1 ∷ [])) (made-Base columns)
 
@@ -170,7 +170,7 @@ rows_range = refl
 abbrev last_reply : ℕ → Shown → Reply
 last_reply id value = Final id (record { size = 2; parts = 0 ∷ 1 ∷ [] }) value
 
-last_word : IsFinal no_tables.told request (last_reply 2 range)
+last_word : IsFinal nothing_told request (last_reply 2 range)
 last_word =
     record {
       rows = rows;
@@ -215,11 +215,11 @@ loads_and_views : {events : List Event} {last : List Talk} (lines : List (List �
     → Goes new_talks (script 1 (load_line ∷ view_line ∷ lines) ∷ []) (comes 0 load_text ∷ written made ∷ comes 0 view_text ∷ events) last
 loads_and_views lines run =
     a_line 1 load_line (view_line ∷ lines) (hears 0 load_text) load_asks (
-    a_text 1 0 load_text (means (makes 1 table)) refl (omega arith, omega arith) load_means (
+    a_text 1 0 load_text (means (makes 1 table)) refl load_means (
     what_is_owed 1 0 (making 1 table None) [] refl (
     nothing_owed 1 0 refl (
     a_line 2 view_line lines (hears 0 view_text) view_asks (
-    a_text 2 0 view_text (means (views 2 table range_plan)) refl (omega arith, omega arith) view_means (
+    a_text 2 0 view_text (means (views 2 table range_plan)) refl view_means (
     nothing_owed 2 0 refl run))))))
 
 abbrev other_sessions : List ℕ
@@ -278,7 +278,7 @@ pub a_view_of_no_object : IsTrace sixteen_sessions whole view_script view_output
 a_view_of_no_object =
     row view_script view_output (view_line ∷ []) view_lines (
     a_line 1 view_line [] (hears 0 view_text) view_asks (
-    a_text 1 0 view_text (malformed why.Object (Some 2)) refl (omega arith, omega arith) view_of_none (
+    a_text 1 0 view_text (malformed why.Object (Some 2)) refl view_of_none (
     what_is_owed 1 0 (answers (Malformed (Some 2) why.Object)) [] refl (
     nothing_owed 1 0 refl (
     no_line 2 (no_round 2 refl)))))) view_out
@@ -346,7 +346,7 @@ a_cancelled_view =
     row cancel_script cancel_output (load_line ∷ view_line ∷ cancel_line ∷ []) cancel_lines (
     loads_and_views (cancel_line ∷ []) (
     a_line 3 cancel_line [] (hears 0 cancel_text) cancel_asks (
-    a_text 3 0 cancel_text (means (cancels 4 2)) refl (omega arith, omega arith) cancel_means (
+    a_text 3 0 cancel_text (means (cancels 4 2)) refl cancel_means (
     what_is_owed 3 0 (ending 2) (answers (Done 4) ∷ []) refl (
     what_is_owed 3 0 (answers (Done 4)) [] refl (
     nothing_owed 3 0 refl (
@@ -367,7 +367,7 @@ date_rows =
     ∷ record { part = 1; number = 0; cells = cell.Date (negsuc 0) ∷ [] }
     ∷ []
 
-dates_rows : whole_rows no_tables.told dates ≡ Some date_rows
+dates_rows : whole_rows nothing_told dates ≡ Some date_rows
 unfolding base_rows csv_on_literals field_at day_of_text days_from_civil day_count days_of_years days_of_months
 dates_rows = ap (λ m. flat_by m dates.base (0 ∷ 1 ∷ [])) (made-Base date_columns)
 

@@ -2,7 +2,7 @@
 use Rattle.std.specs.Prelude.{◌≡◌, ◌==◌, ◌<◌, ℕ, ◌+◌, List, [], ◌∷◌, ◌++◌, length, flat_map, if◌then◌else◌}
 use Rattle.std.specs.Prelude.{◌≤◌, Option, Some, None}
 use Rattle.std.specs.List.{filter}
-use Rattle.hv_message.specs.Messages.{makes, tells, views, cancels, ends, Reading, means, malformed, reading}
+use Rattle.hv_message.specs.Messages.{makes, samples, tells, views, cancels, ends, Reading, means, malformed, reading}
 use Rattle.hv_reply.specs.declared.reply.Reply.{Reply}
 use Rattle.hv_reply.specs.declared.reply.Reply.TheVariants as reply
 use Rattle.hv_session.specs.declared.request.OpenRequest.{OpenRequest}
@@ -85,26 +85,27 @@ LeavesNothingOpen = (g : Setting) (script_bytes output : List ℕ) (s : ℕ) (ri
 -- the id of the request that a text opens: a message that asks for a view, where it was served
 abbrev pub opened_by : Reading → Hearing → Option ℕ
 opened_by read (refused id) = None
-opened_by (malformed why id) (served place) = None
-opened_by (means (makes id lineage)) (served place) = None
-opened_by (means (tells id lineage)) (served place) = None
-opened_by (means (views id lineage view)) (served place) = Some id
-opened_by (means (cancels id request)) (served place) = None
-opened_by (means (ends id)) (served place) = None
+opened_by (malformed why id) served = None
+opened_by (means (makes id lineage)) served = None
+opened_by (means (samples id of threshold seed)) served = None
+opened_by (means (tells id lineage)) served = None
+opened_by (means (views id lineage view)) served = Some id
+opened_by (means (cancels id request)) served = None
+opened_by (means (ends id)) served = None
 
 -- the id of the request whose last word a reply is where nothing is owed
-abbrev pub word_of : Reply → Option ℕ
-word_of (reply.Made id object seed) = None
-word_of (reply.Info id lineage) = None
-word_of (reply.Final id parts value) = Some id
-word_of (reply.Cancelled id) = None
-word_of (reply.Done id) = None
-word_of (reply.Malformed id why) = None
-word_of (reply.NoMem id) = id
+abbrev pub last_word_of : Reply → Option ℕ
+last_word_of (reply.Made id object seed) = None
+last_word_of (reply.Info id lineage) = None
+last_word_of (reply.Final id parts value) = Some id
+last_word_of (reply.Cancelled id) = None
+last_word_of (reply.Done id) = None
+last_word_of (reply.Malformed id why) = None
+last_word_of (reply.NoMem id) = id
 
 -- the same with these answers owed: a last word among them is that a request was cancelled
 abbrev pub ended_by : List Due → Reply → Option ℕ
-ended_by [] r = word_of r
+ended_by [] r = last_word_of r
 ended_by (answers other ∷ later) r = None
 ended_by (making id lineage seed ∷ later) r = None
 ended_by (ending id ∷ later) r = Some id

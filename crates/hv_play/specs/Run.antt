@@ -4,6 +4,7 @@ use Rattle.std.specs.Prelude.{◌≡◌, ℕ, ◌+◌, List, [], ◌∷◌, ◌+
 use Rattle.std.specs.List.{list_any}
 use Rattle.hv_lineage.specs.Flat.{Told}
 use Rattle.hv_member.specs.Sets.{numbers}
+use Rattle.hv_pick.specs.Word.{word_of}
 use Rattle.hv_reply.specs.declared.reply.Reply.{Reply}
 use Rattle.hv_session.specs.declared.request.OpenRequest.{OpenRequest}
 use Rattle.hv_session.specs.Talk.{Talk, Due, Manner, new_talk, Hears, Says, request_with, Closes}
@@ -19,10 +20,12 @@ pub record Setting : Type 0 where
   pub sessions : ℕ
   pub manner : ℕ → Manner
 
--- a setting of so many sessions over catalogs of no tables
+-- a setting of so many sessions over catalogs of no tables, each of which draws its seeds from the words of seed 0 on the
+-- stream of its number
 pub record Suits (g : Setting) (sessions : ℕ) : Type 0 where
   pub many : g.sessions ≡ sessions
   pub no_tables : (s : ℕ) → (g.manner s).tables ≡ []
+  pub words : (s : ℕ) → (g.manner s).words ≡ word_of 0 s
 
 -- the talks of the sessions, by number
 pub record State : Type 0 where
@@ -123,7 +126,7 @@ Does g state (script k (line ∷ lines)) event next more = Did None state (dutie
 Does g state (drain k) event next more = Did None state (drain_duties g k state) event next more
 Does g state (refusing k why) event next more = Did (Some (written (bad_entry k why))) state [] event next more
 Does g state (hearing k s text) event next more =
-    (talk : Talk) × Hears (g.manner s).tables (talk_of state s) text talk × Did (Some (comes s text)) (with_talk state s talk) (saying k s ∷ []) event next more
+    (talk : Talk) × Hears (g.manner s).tables (g.manner s).words (talk_of state s) text talk × Did (Some (comes s text)) (with_talk state s talk) (saying k s ∷ []) event next more
 Does g state (saying k s) event next more = SaysOwed (g.manner s) state k s (talk_of state s).due event next more
 Does g state (ticking k s) event next more = Did None state (treatings k s (talk_of state s).requests) event next more
 Does g state (treating k s id) event next more = Treats (g.manner s).told state k s (request_with id (talk_of state s)) event next more

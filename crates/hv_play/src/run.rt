@@ -6,6 +6,7 @@ ghost use Rattle.serde_json.specs.Read.{max_depth};
 ghost use Rattle.serde_json.specs.View.{view};
 ghost use Rattle.serde_json.specs.Written.{compact_text, has_float};
 ghost use Rattle.hv_outer.specs.Causes.{HasCause};
+ghost use Rattle.hv_pick.specs.Word.{word_of};
 ghost use Rattle.hv_session.specs.Held.{replies_of};
 ghost use Rattle.hv_session.specs.Talk.{Replies, new_talk};
 ghost use Rattle.hv_play.specs.Run.{Setting, whole, early, script, drain, ticking, duties_of, round, is_anything_open, Suits};
@@ -24,15 +25,15 @@ use serde_json::Value;
 use std::alloc::Global;
 use std::sync::Arc;
 
-/// A session hears a message's compact text.
-fn hear_message(alloc: Global, session: &mut ScriptSession, message: &Value) -> Answer
+/// The session with a number hears a message's compact text.
+fn hear_message(alloc: Global, session: &mut ScriptSession, number: u32, message: &Value) -> Answer
     requires exact { has_float (view message.now) ≡ false }
     requires nests { depth (view message.now) ≤ max_depth }
-    ensures { Replies [] session.old (compact_text (view message.now))
+    ensures { Replies [] (word_of 0 number) session.old (compact_text (view message.now))
         (replies_of result) session.new }
 {
     match message.to_string(alloc) {
-        Ok(text) => session.hear_value(alloc, text.as_str(), message),
+        Ok(text) => session.hear_value(alloc, number, text.as_str(), message),
         Err(_) => session.refuse(),
     }
 }
@@ -50,10 +51,10 @@ fn do_value(alloc: Global, sessions: &mut [ScriptSession], value: &Value) -> Lin
     };
     let session = &mut sessions[s as usize];
     if let Some(message) = message_in_line(value) {
-        return LineAnswer::Said(s as u32, hear_message(alloc, session, message));
+        return LineAnswer::Said(s as u32, hear_message(alloc, session, s as u32, message));
     }
     match text_at(value, "raw") {
-        Some(text) => LineAnswer::Said(s as u32, session.hear(alloc, text)),
+        Some(text) => LineAnswer::Said(s as u32, session.hear(alloc, s as u32, text)),
         None => LineAnswer::Bad(why_bad(value)),
     }
 }

@@ -1,15 +1,16 @@
 //! A session of a script: its catalog has no tables, so contracts see its talk alone.
 
-ghost use Rattle.std.specs.Prelude.{◌≡◌, [], Some, IfOk, IfNone, IfSome};
+ghost use Rattle.std.specs.Prelude.{◌≡◌, ℕ, [], Some, IfOk, IfNone, IfSome};
 ghost use Rattle.std.specs.Arc.{arc_value};
 ghost use Rattle.serde_json.specs.Read.{read};
 ghost use Rattle.serde_json.specs.View.{view};
+ghost use Rattle.hv_pick.specs.Word.{word_of};
 ghost use Rattle.hv_session.specs.Held.{AnswersFirst, replies_of};
 ghost use Rattle.hv_session.specs.Talk.{Replies, new_talk};
 ghost use Rattle.hv_play.specs.Run.{is_waiting};
 
 use hv_reply::Reply;
-use hv_session::{Answer, Session};
+use hv_session::{Answer, Seeds, Session};
 use hv_value::{Catalog, Mem};
 use serde_json::Value;
 use std::alloc::Global;
@@ -47,24 +48,31 @@ impl ScriptSession {
         Ok(ScriptSession { session })
     }
 
-    /// Hears a text, and gives the replies that are due at once.
-    pub(crate) fn hear(&mut self, alloc: Global, text: &str) -> Answer
-        ensures { Replies [] self.old text.now (replies_of result) self.new }
+    /// Hears a text, as the session with a number, and gives the replies that are due at once.
+    pub(crate) fn hear(&mut self, alloc: Global, number: u32, text: &str) -> Answer
+        ensures { Replies [] (word_of 0 number) self.old text.now (replies_of result) self.new }
     {
-        self.session.hear(alloc, text)
+        self.session.hear(alloc, seeds_of(number), text)
     }
 
     /// Hears a text that is given with the value that it is read as.
-    pub(crate) fn hear_value(&mut self, alloc: Global, text: &str, value: &Value) -> Answer
+    pub(crate) fn hear_value(
+        &mut self,
+        alloc: Global,
+        number: u32,
+        text: &str,
+        value: &Value,
+    ) -> Answer
         requires { read text.now ≡ Some (view value.now) }
-        ensures { Replies [] self.old text.now (replies_of result) self.new }
+        ensures { Replies [] (word_of 0 number) self.old text.now (replies_of result) self.new }
     {
-        self.session.hear_value(alloc, text, value)
+        self.session
+            .hear_value(alloc, seeds_of(number), text, value)
     }
 
     /// Hears a text for which memory was refused before it could be had.
     pub(crate) fn refuse(&mut self) -> Answer
-        ensures { (text : _) → Replies [] self.old text (replies_of result) self.new }
+        ensures { (words : ℕ → ℕ) (text : _) → Replies [] words self.old text (replies_of result) self.new }
     {
         let _ = &self.session;
         Answer::One(Reply::NoMem { id: None })
@@ -83,5 +91,15 @@ impl ScriptSession {
         ensures none { IfNone result ((self.old.requests ≡ []) × (self.new ≡ self.old)) }
     {
         self.session.answer_first(alloc)
+    }
+}
+
+/// The words of the session with a number.
+fn seeds_of(number: u32) -> Seeds
+    ensures { result ≡ record { seed = 0; stream = number } }
+{
+    Seeds {
+        seed: 0,
+        stream: number,
     }
 }

@@ -3,6 +3,7 @@ use Rattle.serde_json.specs.View.{view}
 use Rattle.serde_json.specs.Written.{compact_text}
 use Rattle.std.specs.Prelude.{Some}
 use Rattle.std.proofs.lemmas.List.{set-get_or}
+use Rattle.hv_pick.specs.Word.{word_of}
 use Rattle.hv_session.specs.Held.{replies_of}
 use Rattle.hv_play.specs.declared.entry.LineAnswer.TheVariants.{Bad}
 use Rattle.hv_play.specs.Run.{duties_of}
@@ -27,7 +28,7 @@ returns-in-Some-message_in_line c = λ g k suits.
     let talks = c.args.sessions.now in
     let s = c.in-Some.s in
     let within : s < length talks = omega (arith, c.in-Some.ensures.within, c.requires.all) in
-    value_heard g k s value (compact_text (view c.in-Some-message_in_line.message.now)) (at talks) c.index-sessions-s.result c.hear_message.new.session (replies_of c.hear_message.result) (suits.no_tables s) within
+    value_heard g k s value (compact_text (view c.in-Some-message_in_line.message.now)) (at talks) c.index-sessions-s.result c.hear_message.new.session (replies_of c.hear_message.result) (suits.no_tables s) (word_of 0 s) (suits.words s) within
     (sym c.in-Some.ensures.session) (ap (text_or_raw value) (sym c.in-Some-message_in_line.ensures.message)) c.hear_message.ensures
 
 -- the session hears a text
@@ -37,7 +38,7 @@ returns-in-Some-text_at c = λ g k suits.
     let talks = c.args.sessions.now in
     let s = c.in-Some.s in
     let within : s < length talks = omega (arith, c.in-Some.ensures.within, c.requires.all) in
-    value_heard g k s value c.in-Some-text_at.text.now (at talks) c.index-sessions-s.result c.hear.new.self (replies_of c.hear.result) (suits.no_tables s) within
+    value_heard g k s value c.in-Some-text_at.text.now (at talks) c.index-sessions-s.result c.hear.new.self (replies_of c.hear.result) (suits.no_tables s) (word_of 0 s) (suits.words s) within
     (sym c.in-Some.ensures.session) (ap (text_or_raw value) (sym c.in_default-message_in_line.ensures.message) ∙ sym c.in-Some-text_at.ensures) c.hear.ensures
 
 -- there is nothing to hear
